@@ -1,0 +1,115 @@
+-- The test of a path against its grammar.
+use Rattle.std.proofs.Common.{◌≡◌, ℕ, ◌<◌, ◌≤◌, Bool, true, false, cond, ◌&&◌, List, [], ◌∷◌, ◌++◌, length, refl, sym, ◌∙◌, ap, subst, arith}
+use Rattle.std.proofs.lemmas.Bool.{and_parts, and_from, eqb-true, false≢true, ne_eqb}
+use Rattle.std.specs.List.{AllByRecursion, flat_map}
+use Rattle.std.specs.Prelude.{IsTrue, ◌==◌}
+use Rattle.dm_base.specs.Naming.{IsName, IsPath, is_name_byte, is_spelled}
+
+abbrev pub slashed : List (List ℕ) → List ℕ
+slashed names = flat_map (λ (name : List ℕ). 47 ∷ name) names
+
+abbrev pub AreNameBytes : List ℕ → Type 0
+AreNameBytes bytes = AllByRecursion (λ b. IsTrue (is_name_byte b)) bytes
+
+-- what the test accepts: the rest of a name, and further names
+pub record Spells (named : Bool) (bytes : List ℕ) : Type 0 where
+  pub name : List ℕ
+  pub names : List (List ℕ)
+  pub each_byte : AreNameBytes name
+  pub some : named ≡ false → 0 < length name
+  pub each : AllByRecursion IsName names
+  pub is : bytes ≡ name ++ slashed names
+
+-- at a slash: the name that has begun ends, and the next one begins
+slash_spells : (bytes : List ℕ) → Spells false bytes → Spells true (47 ∷ bytes)
+slash_spells bytes s = record {
+  name = [];
+  names = s.name ∷ s.names;
+  each_byte = tt;
+  some = λ e. absurd (false≢true (sym e));
+  each = (record { some = s.some refl; bytes = s.each_byte }, s.each);
+  is = ap (λ bs. 47 ∷ bs) s.is;
+}
+
+byte_spells : (named : Bool) (b : ℕ) (bytes : List ℕ) → IsTrue (is_name_byte b) → Spells true bytes → Spells named (b ∷ bytes)
+byte_spells named b bytes h s = record {
+  name = b ∷ s.name;
+  names = s.names;
+  each_byte = (h, s.each_byte);
+  some = λ _. omega arith;
+  each = s.each;
+  is = ap (λ bs. b ∷ bs) s.is;
+}
+
+end_spells : (named : Bool) → named ≡ true → Spells named []
+end_spells named e = record { name = []; names = []; each_byte = tt; some = λ f. absurd (false≢true (sym f ∙ e)); each = tt; is = refl }
+
+-- one byte more, by the case of the test
+cons_spells : (named : Bool) (b : ℕ) (bytes : List ℕ) (t : Bool) → t ≡ (b == 47) → ((n : Bool) → is_spelled n bytes ≡ true → Spells n bytes)
+    → cond t (named && is_spelled false bytes) (is_name_byte b && is_spelled true bytes) ≡ true → Spells named (b ∷ bytes)
+cons_spells named b bytes false is rest e = byte_spells named b bytes (and_parts _ _ e).0 (rest true (and_parts _ _ e).1)
+cons_spells false b bytes true is rest e = absurd (false≢true e)
+cons_spells true b bytes true is rest e =
+    let slash : b ≡ 47 = eqb-true b 47 (sym is) in
+    subst (λ (x : ℕ). Spells true (x ∷ bytes)) (sym slash) (slash_spells bytes (rest false e))
+
+pub spells : (named : Bool) (bytes : List ℕ) → is_spelled named bytes ≡ true → Spells named bytes
+spells named [] e = end_spells named e
+spells named (b ∷ bytes) e = cons_spells named b bytes (b == 47) refl (λ n. spells n bytes) e
+
+-- what passes the test behind a slash is a path
+pub path_of : (rest : List ℕ) → is_spelled false rest ≡ true → length (47 ∷ rest) ≤ 255 → IsPath (47 ∷ rest)
+path_of rest e fits =
+    let s = spells false rest e in
+    record {
+      names = s.name ∷ s.names;
+      some = omega arith;
+      each = (record { some = s.some refl; bytes = s.each_byte }, s.each);
+      spelled = ap (λ bs. 47 ∷ bs) s.is;
+      fits = fits;
+    }
+
+-- a name's byte is no slash
+name_byte_not_slash : (b : ℕ) → IsTrue (is_name_byte b) → (b == 47) ≡ false
+name_byte_not_slash b h = ne_eqb b 47 (λ e. false≢true (subst (λ (x : ℕ). is_name_byte x ≡ true) e h))
+
+-- the rest of a name and further names pass the test
+pub names_pass : (named : Bool) (name : List ℕ) (names : List (List ℕ)) → AreNameBytes name → (named ≡ false → 0 < length name) → AllByRecursion IsName names
+    → is_spelled named (name ++ slashed names) ≡ true
+names_pass true [] [] bytes some each = refl
+names_pass false [] names bytes some each = absurd (omega (arith, some refl))
+names_pass true [] (next ∷ names) bytes some each = names_pass false next names each.0.bytes (λ _. each.0.some) each.1
+names_pass named (b ∷ name) names bytes some each =
+    subst (λ (t : Bool). cond t (named && is_spelled false (name ++ slashed names)) (is_name_byte b && is_spelled true (name ++ slashed names)) ≡ true)
+    (sym (name_byte_not_slash b bytes.0))
+    (and_from _ _ bytes.0 (names_pass true name names bytes.1 (λ e. absurd (false≢true (sym e))) each))
+
+-- what a path begins with, and what the test says of the rest
+pub record Passes (text : List ℕ) : Type 0 where
+  pub rest : List ℕ
+  pub is : text ≡ 47 ∷ rest
+  pub passes : is_spelled false rest ≡ true
+  pub fits : length text ≤ 255
+
+passes_from : (text : List ℕ) (names : List (List ℕ)) → 0 < length names → AllByRecursion IsName names → text ≡ slashed names → length text ≤ 255 → Passes text
+passes_from text [] some each is fits = absurd (omega (arith, some))
+passes_from text (name ∷ names) some each is fits =
+    record { rest = name ++ slashed names; is = is; passes = names_pass false name names each.0.bytes (λ _. each.0.some) each.1; fits = fits }
+
+pub passes : (text : List ℕ) → IsPath text → Passes text
+passes text p = passes_from text p.names p.some p.each p.spelled p.fits
+
+-- the cases of the test, as the code meets them
+pub none_empty : (text : List ℕ) → length text ≡ 0 → IsPath text → ⊥
+none_empty text e p = let s = passes text p in omega (arith, ap length s.is)
+
+pub none_unslashed : (text : List ℕ) (first : ℕ) (rest : List ℕ) → text ≡ first ∷ rest → (first ≡ 47 → ⊥) → IsPath text → ⊥
+none_unslashed text first rest e other p = let s = passes text p in other (let both : first ∷ rest ≡ 47 ∷ s.rest = sym e ∙ s.is in cc)
+
+pub decided : (text : List ℕ) (first : ℕ) (rest : List ℕ) (r : Bool) → text ≡ first ∷ rest → first ≡ 47 → length text ≤ 255 → r ≡ is_spelled false rest
+    → (IsTrue r → IsPath text) × (IsPath text → IsTrue r)
+decided text first rest r e slash fits is =
+    let whole : text ≡ 47 ∷ rest = e ∙ ap (λ b. b ∷ rest) slash in (
+      λ t. subst IsPath (sym whole) (path_of rest (sym is ∙ t) (subst (λ (l : List ℕ). length l ≤ 255) whole fits)),
+      λ p. let s = passes text p in let same : rest ≡ s.rest = (let both : 47 ∷ rest ≡ 47 ∷ s.rest = sym whole ∙ s.is in cc) in is ∙ ap (is_spelled false) same ∙ s.passes,
+    )

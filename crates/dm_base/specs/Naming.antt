@@ -1,0 +1,26 @@
+-- The grammar of names.
+use Rattle.std.specs.Prelude.{◌≡◌, ◌==◌, ℕ, ◌<◌, ◌≤◌, nat_le, Bool, true, false, ◌&&◌, ◌||◌, if◌then◌else◌, IsTrue, List, [], ◌∷◌, length}
+use Rattle.std.specs.List.{AllByRecursion, flat_map}
+
+-- A-Z, a-z, 0-9, and `.` (46), `_` (95), `-` (45)
+abbrev pub is_name_byte : ℕ → Bool
+is_name_byte b = (nat_le 65 b && nat_le b 90) || (nat_le 97 b && nat_le b 122) || (nat_le 48 b && nat_le b 57) || b == 46 || b == 95 || b == 45
+
+-- a name: one byte or more
+pub record IsName (name : List ℕ) : Type 0 where
+  pub some : 0 < length name
+  pub bytes : AllByRecursion (λ b. IsTrue (is_name_byte b)) name
+
+-- a path: a slash (47) and a name, once or more
+pub record IsPath (text : List ℕ) : Type 0 where
+  pub names : List (List ℕ)
+  pub some : 0 < length names
+  pub each : AllByRecursion IsName names
+  pub spelled : text ≡ flat_map (λ name. 47 ∷ name) names
+  pub fits : length text ≤ 255
+
+-- what `Path::of_bytes` tests behind the first slash: names with one slash between them, of which the
+-- first has begun where `named` is true
+abbrev pub is_spelled : Bool → List ℕ → Bool
+is_spelled named [] = named
+is_spelled named (b ∷ bs) = if b == 47 then named && is_spelled false bs else is_name_byte b && is_spelled true bs
