@@ -3,3 +3,4 @@ pub mod Stream
 pub mod Readings
 pub mod Disk
 pub mod Works
+pub mod Faults

@@ -8,11 +8,17 @@
 
 mod bay;
 mod clock;
+mod memory_clock;
+mod memory_sink;
+mod memory_source;
 mod sink;
 mod source;
 
 pub use bay::{Bay, read_synced, write_synced};
 pub use clock::Clock;
+pub use memory_clock::MemClock;
+pub use memory_sink::MemSink;
+pub use memory_source::MemSource;
 pub use sink::Sink;
 pub use source::Source;
 
