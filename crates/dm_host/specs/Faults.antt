@@ -1,0 +1,11 @@
+-- Which calls fail, and what counts of calls and faults come to.
+use Rattle.std.specs.Prelude.{ℕ, ◌+◌, min, Bool, List, ◌==◌}
+use Rattle.std.specs.List.{list_any}
+
+-- one more, up to the last value of a u64
+abbrev pub counted : ℕ → ℕ
+counted n = min (n + 1) 18446744073709551615
+
+-- the number is one of these
+abbrev pub is_numbered : List ℕ → ℕ → Bool
+is_numbered numbers number = list_any (λ n. n == number) numbers

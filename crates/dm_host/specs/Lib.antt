@@ -1,0 +1,6 @@
+pub mod Count
+pub mod Stream
+pub mod Readings
+pub mod Disk
+pub mod Works
+pub mod Faults

@@ -1,0 +1,27 @@
+//! The outside as the rest sees it: streams of bytes, a clock, and a bay of numbered files that a crash may
+//! tear. Each is a trait, with an implementation over memory whose faults can be chosen.
+//!
+//! Each trait but the clock has a count of faults that never falls, and a call answers `Failed` only where the
+//! count rose in that call or stands at its last value. What an object holds is a ghost member, which the
+//! implementations over memory tell; one over a file, a socket or a terminal need not.
+#![tactic(auto)]
+
+mod bay;
+mod clock;
+mod memory_clock;
+mod memory_sink;
+mod memory_source;
+mod sink;
+mod source;
+
+pub use bay::{Bay, read_synced, write_synced};
+pub use clock::Clock;
+pub use memory_clock::MemClock;
+pub use memory_sink::MemSink;
+pub use memory_source::MemSource;
+pub use sink::Sink;
+pub use source::Source;
+
+/// The outside failed. The cause is known to the object alone, which counted it.
+#[derive(Clone, Copy, Debug, PartialEq, Eq)]
+pub struct Failed;
