@@ -1,0 +1,3 @@
+pub mod Cuts
+pub mod RoomLemmas
+pub mod Cells

@@ -1,0 +1,13 @@
+//! What stands on a volume: its label, and the zones that hold pieces of bitfiles in chunks.
+#![tactic(auto)]
+
+mod labels;
+mod rooms;
+mod zone;
+
+pub use labels::label;
+pub use rooms::room;
+pub use zone::encode_zone;
+
+#[cfg(test)]
+mod tests;

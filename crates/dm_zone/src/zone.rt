@@ -1,0 +1,116 @@
+//! A zone: a header, and the chunks of a piece of a bitfile.
+
+ghost use Rattle.std.specs.Prelude.{◌≡◌, ◌<◌, ◌≤◌, ◌+◌, ◌^◌, ◌++◌, drop, length, IfOk, OnOk};
+ghost use Rattle.std.specs.List.{flat_map};
+ghost use Rattle.dm_zone.specs.Zone.{Chunk, chunk_count, chunk_front, chunk_text, cut, cut_into, zone, zone_front, zone_length};
+
+use dm_base::{Bfid, NoMemory};
+use std::alloc::Global;
+
+/// The length of a zone's header.
+pub const ZONE_HEADER: u64 = 32;
+
+/// The length of a chunk's header.
+pub const CHUNK_HEADER: u64 = 48;
+
+/// The zone that holds the bytes of a bitfile from `offset` on, in chunks of `chunk` bytes.
+pub fn encode_zone(
+    alloc: Global,
+    epoch: u64,
+    bfid: Bfid,
+    total: u64,
+    offset: u64,
+    bytes: &[u8],
+    chunk: u64,
+) -> Result<Vec<u8>, NoMemory>
+    requires some { 0 < length bytes.now }
+    requires chunk { 0 < chunk }
+    requires within { offset + length bytes.now ≤ total }
+    requires count { chunk_count chunk (length bytes.now) < 2 ^ 32 }
+    ensures spelled { IfOk result (λ v. v.items ≡ zone epoch (cut bfid.0 total offset bytes.now chunk)) }
+    ensures long { IfOk result (λ v. length v.items ≡ zone_length chunk (length bytes.now)) }
+    ensures one { length bytes.now ≤ chunk → IfOk result (λ v. (length v.items ≡ 80 + length bytes.now) × (drop 80 v.items ≡ bytes.now)) }
+{
+    let count = (bytes.len() as u64).div_ceil(chunk);
+    let headers = ZONE_HEADER + CHUNK_HEADER * count;
+    // No memory holds a zone whose length passes a u64.
+    let Some(whole) = headers.checked_add(bytes.len() as u64) else {
+        return Err(NoMemory);
+    };
+    let mut out = Vec::with_capacity(alloc, whole as usize)?;
+    put_front(&mut out, epoch, count as u32, whole)?;
+    put_chunks(&mut out, bfid, total, offset, bytes, chunk, count)?;
+    Ok(out)
+}
+
+#[tactic(auto, unfolding(crate::specs::Zone::zone_front))]
+fn put_front(out: &mut Vec<u8>, epoch: u64, count: u32, whole: u64) -> Result<(), NoMemory>
+    ensures { OnOk result (out.new.items ≡ out.old.items ++ zone_front epoch count whole) }
+{
+    out.extend_from_slice(b"ZONE")?;
+    out.extend_from_slice(&count.to_be_bytes())?;
+    out.extend_from_slice(&epoch.to_be_bytes())?;
+    out.extend_from_slice(&whole.to_be_bytes())?;
+    out.extend_from_slice(&[0; 8])?;
+    Ok(())
+}
+
+// The chunks of the bytes, of which there are `count`.
+fn put_chunks(
+    out: &mut Vec<u8>,
+    bfid: Bfid,
+    total: u64,
+    offset: u64,
+    bytes: &[u8],
+    chunk: u64,
+    count: u64,
+) -> Result<(), NoMemory>
+    requires { offset + length bytes.now < 2 ^ 64 }
+    ensures { OnOk result (
+        out.new.items ≡ out.old.items ++ flat_map chunk_text (cut_into count bfid.0 total offset bytes.now chunk)
+        ) }
+{
+    let mut rest = bytes;
+    let mut place = offset;
+    for _ in 0..count {
+        let (front, back) = rest.split_at((chunk as usize).min(rest.len()));
+        put_chunk(out, bfid, total, place, front)?;
+        place += front.len() as u64;
+        rest = back;
+    }
+    Ok(())
+}
+
+fn put_chunk(
+    out: &mut Vec<u8>,
+    bfid: Bfid,
+    total: u64,
+    offset: u64,
+    bytes: &[u8],
+) -> Result<(), NoMemory>
+    ensures { OnOk result (
+        out.new.items ≡ out.old.items ++ chunk_text (record { bfid = bfid.0; total = total; offset = offset; bytes = bytes.now })
+        ) }
+{
+    put_chunk_front(out, bfid, total, offset, bytes.len() as u64)?;
+    out.extend_from_slice(bytes)?;
+    Ok(())
+}
+
+#[tactic(auto, unfolding(crate::specs::Zone::chunk_front))]
+fn put_chunk_front(
+    out: &mut Vec<u8>,
+    bfid: Bfid,
+    total: u64,
+    offset: u64,
+    count: u64,
+) -> Result<(), NoMemory>
+    ensures { OnOk result (out.new.items ≡ out.old.items ++ chunk_front bfid.0 offset count total) }
+{
+    out.extend_from_slice(b"CHNK\0\0\0\0")?;
+    out.extend_from_slice(&bfid.0.to_be_bytes())?;
+    out.extend_from_slice(&offset.to_be_bytes())?;
+    out.extend_from_slice(&count.to_be_bytes())?;
+    out.extend_from_slice(&total.to_be_bytes())?;
+    Ok(())
+}
