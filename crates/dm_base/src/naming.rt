@@ -3,6 +3,7 @@
 ghost use Rattle.std.specs.Prelude.{◌≡◌, ◌↔◌, false, IsTrue, IfOk, IsErrOf};
 ghost use Rattle.dm_base.specs.Naming.{IsPath, is_name_byte as is_name_byte_of, is_spelled};
 
+use crate::memory::NoMemory;
 use std::alloc::Global;
 use std::cmp::Ordering;
 use std::marker::Model;
@@ -46,6 +47,15 @@ impl Path {
             Ok(text) => Ok(Path { text }),
             Err(_) => Err(TextError::NoMemory),
         }
+    }
+
+    /// A copy. It takes memory of its own.
+    pub fn copied(&self, alloc: Global) -> Result<Path, NoMemory>
+        ensures { IfOk result (λ copy. copy ≡ self.now) }
+    {
+        Ok(Path {
+            text: Vec::from_slice(alloc, self.text.as_slice())?,
+        })
     }
 
     /// The text.
