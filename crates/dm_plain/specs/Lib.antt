@@ -1,0 +1,2 @@
+pub mod Namespace
+pub mod Steps
