@@ -4,3 +4,4 @@ pub mod Readings
 pub mod Disk
 pub mod Works
 pub mod Faults
+pub mod Past

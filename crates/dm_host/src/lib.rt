@@ -7,7 +7,11 @@
 #![tactic(auto)]
 
 mod bay;
+mod change;
 mod clock;
+mod faults;
+mod files;
+mod memory_bay;
 mod memory_clock;
 mod memory_sink;
 mod memory_source;
@@ -16,6 +20,7 @@ mod source;
 
 pub use bay::{Bay, read_synced, write_synced};
 pub use clock::Clock;
+pub use memory_bay::MemBay;
 pub use memory_clock::MemClock;
 pub use memory_sink::MemSink;
 pub use memory_source::MemSource;
