@@ -4,3 +4,4 @@ pub mod Told
 mod Contents
 mod Overlay
 mod Kept
+mod Either

@@ -5,3 +5,4 @@ pub mod Disk
 pub mod Works
 pub mod Faults
 pub mod Past
+pub mod MemoryBay

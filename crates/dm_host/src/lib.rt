@@ -30,3 +30,6 @@ pub use source::Source;
 /// The outside failed. The cause is known to the object alone, which counted it.
 #[derive(Clone, Copy, Debug, PartialEq, Eq)]
 pub struct Failed;
+
+#[cfg(test)]
+mod tests;

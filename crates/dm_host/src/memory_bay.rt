@@ -31,13 +31,15 @@ pub struct MemBay {
 impl MemBay {
     ghost use Rattle.std.specs.Prelude.{◌≡◌, ◌≢◌, ◌<◌, [], None, slice_set, IsTrue};
     ghost use Rattle.dm_host.specs.Disk.{Only};
+    ghost use Rattle.dm_host.specs.MemoryBay.{disk_of, Stands};
 
     /// A bay of empty files with no fault to come. It takes no memory.
     pub fn empty(alloc: Global) -> MemBay
-        ensures told { IsTrue (⟦<MemBay as Bay>⟧.disk result).told }
-        ensures seen { (g : ℕ) → (⟦<MemBay as Bay>⟧.disk result).seen g ≡ [] }
-        ensures leaves { (g : ℕ) → Only [] ((⟦<MemBay as Bay>⟧.disk result).may_leave g) }
-        ensures count { ⟦<MemBay as Bay>⟧.count result ≡ 0 }
+        ensures told { IsTrue (disk_of result).told }
+        ensures seen { (g : ℕ) → (disk_of result).seen g ≡ [] }
+        ensures leaves { (g : ℕ) → Only [] ((disk_of result).may_leave g) }
+        ensures count { result.count ≡ 0 }
+        ensures calls { result.calls ≡ 0 }
         ensures fail { result.fail.items ≡ [] }
         ensures fuse { result.fuse ≡ None }
     {
@@ -54,30 +56,32 @@ impl MemBay {
 
     /// What a file holds. This is no call of the bay.
     pub fn bytes(&self, file: u32) -> &[u8]
-        ensures { result.now ≡ (⟦<MemBay as Bay>⟧.disk self.now).seen file }
+        ensures { result.now ≡ (disk_of self.now).seen file }
     {
         bytes_of(&self.files, file as usize)
     }
 
     /// Sets a byte, also on the disk, as if it had always been so. This is no call of the bay.
     pub fn set(&mut self, file: u32, place: u64, byte: u8)
-        requires { place < length ((⟦<MemBay as Bay>⟧.disk self.old).seen file) }
-        ensures byte { (⟦<MemBay as Bay>⟧.disk self.new).seen file ≡ slice_set ((⟦<MemBay as Bay>⟧.disk self.old).seen file) place byte }
-        ensures others { (g : ℕ) → g ≢ file → (⟦<MemBay as Bay>⟧.disk self.new).seen g ≡ (⟦<MemBay as Bay>⟧.disk self.old).seen g }
-        ensures count { ⟦<MemBay as Bay>⟧.count self.new ≡ ⟦<MemBay as Bay>⟧.count self.old }
-        ensures fail { self.new.fail.items ≡ self.old.fail.items }
-        ensures fuse { self.new.fuse ≡ self.old.fuse }
+        requires { place < length ((disk_of self.old).seen file) }
+        ensures byte { (disk_of self.new).seen file ≡ slice_set ((disk_of self.old).seen file) place byte }
+        ensures others { (g : ℕ) → g ≢ file → (disk_of self.new).seen g ≡ (disk_of self.old).seen g }
+        ensures stands { Stands self.old self.new }
     {
         set_byte(&mut self.files, file as usize, place as usize, byte);
     }
 }
 
 impl Bay for MemBay {
-    ghost use Rattle.std.specs.Prelude.{reverse};
+    ghost use Rattle.std.specs.Prelude.{◌≡◌, ◌⊎◌, ◌↔◌, ◌+◌, ◌/◌, ◌<◌, take, reverse, IfOk, OnOk, IsErr, IsTrue};
     ghost use Rattle.std.proofs.Common.{inl, refl};
-    ghost use Rattle.dm_host.specs.Past.{disk_from, now_alone, now_counts};
+    ghost use Rattle.dm_host.specs.Count.{HasCause};
+    ghost use Rattle.dm_host.specs.Disk.{Only, Torn, Written, part, Same};
+    ghost use Rattle.dm_host.specs.MemoryBay.{disk_of, fails_next, Goes};
+    ghost use Rattle.dm_host.specs.Past.{now_alone, now_counts};
+    ghost use Rattle.dm_host.specs.Works.{Works, File, Follows};
 
-    ghost disk = { λ m. disk_from (reverse m.log.items) (contents m.files.items) };
+    ghost disk = { disk_of };
 
     ghost count = { λ m. m.count };
 
@@ -89,18 +93,50 @@ impl Bay for MemBay {
 
     ghost bounded = { λ m g told. m.bounded g };
 
-    fn len(&mut self, file: u32) -> Result<u64, Failed> {
+    fn len(&mut self, file: u32) -> Result<u64, Failed>
+        requires { file < 256 }
+        ensures len { IfOk result (λ n. n ≡ length ((disk_of self.old).seen file)) }
+        ensures limit { IfOk result (λ n. n ≤ 2 ^ 62) }
+        ensures same { (disk_of self.new).seen file ≡ (disk_of self.old).seen file }
+        ensures works { Works (File file) (disk_of self.old) (disk_of self.new) (Follows Same file (disk_of self.old)) }
+        ensures cause { HasCause self.old.count self.new.count result }
+        ensures fails { IsErr result ↔ IsTrue (fails_next self.old) }
+        ensures goes { Goes self.old self.new }
+    {
         begin(&mut self.calls, &mut self.count, &self.fail, self.fuse)?;
         Ok(bytes_of(&self.files, file as usize).len() as u64)
     }
 
-    fn read(&mut self, file: u32, place: u64, into: &mut [u8]) -> Result<(), Failed> {
+    fn read(&mut self, file: u32, place: u64, into: &mut [u8]) -> Result<(), Failed>
+        requires file { file < 256 }
+        requires range { place + length into.old ≤ 2 ^ 63 }
+        ensures bytes { OnOk result (into.new ≡ part ((disk_of self.old).seen file) place (length into.old)) }
+        ensures same { (disk_of self.new).seen file ≡ (disk_of self.old).seen file }
+        ensures works { Works (File file) (disk_of self.old) (disk_of self.new) (Follows Same file (disk_of self.old)) }
+        ensures cause { HasCause self.old.count self.new.count result }
+        ensures fails { IsErr result ↔ IsTrue (fails_next self.old) }
+        ensures goes { Goes self.old self.new }
+    {
         begin(&mut self.calls, &mut self.count, &self.fail, self.fuse)?;
         read_part(bytes_of(&self.files, file as usize), place, into);
         Ok(())
     }
 
-    fn write(&mut self, file: u32, place: u64, bytes: &[u8]) -> Result<(), Failed> {
+    fn write(&mut self, file: u32, place: u64, bytes: &[u8]) -> Result<(), Failed>
+        requires file { file < 256 }
+        requires reach { (place + length bytes.now ≤ 67108864) ⊎ (place ≤ length ((disk_of self.old).seen file)) }
+        ensures written { OnOk result (Written place bytes.now ((disk_of self.old).seen file) ((disk_of self.new).seen file)) }
+        ensures torn { Torn place (length bytes.now) ((disk_of self.old).seen file) ((disk_of self.new).seen file) }
+        ensures limit { OnOk result (place + length bytes.now ≤ 2 ^ 62) }
+        ensures works { Works (File file) (disk_of self.old) (disk_of self.new) (Follows (Torn place (length bytes.now)) file (disk_of self.old)) }
+        ensures cause { HasCause self.old.count self.new.count result }
+        ensures fails { IsTrue (fails_next self.old) → IsErr result }
+        // It has written the first half, or memory was refused to it, or it would end past the limit.
+        ensures half { IsTrue (fails_next self.old)
+            → Written place (take (length bytes.now / 2) bytes.now) ((disk_of self.old).seen file) ((disk_of self.new).seen file)
+            ⊎ ((disk_of self.new).seen file ≡ (disk_of self.old).seen file) }
+        ensures goes { Goes self.old self.new }
+    {
         self.calls = self.calls.saturating_add(1);
         let failing = fails(&self.fail, self.fuse, self.calls);
         let n = front_of(failing, bytes.len());
@@ -116,7 +152,15 @@ impl Bay for MemBay {
         answer(failing, put, &mut self.count)
     }
 
-    fn sync(&mut self, file: u32) -> Result<(), Failed> {
+    fn sync(&mut self, file: u32) -> Result<(), Failed>
+        requires { file < 256 }
+        ensures durable { OnOk result (Only ((disk_of self.old).seen file) ((disk_of self.new).may_leave file)) }
+        ensures same { (disk_of self.new).seen file ≡ (disk_of self.old).seen file }
+        ensures works { Works (File file) (disk_of self.old) (disk_of self.new) (Follows Same file (disk_of self.old)) }
+        ensures cause { HasCause self.old.count self.new.count result }
+        ensures fails { IsTrue (fails_next self.old) → IsErr result }
+        ensures goes { Goes self.old self.new }
+    {
         begin(&mut self.calls, &mut self.count, &self.fail, self.fuse)?;
         if self.log.reserve(1).is_err() {
             self.count = self.count.saturating_add(1);
