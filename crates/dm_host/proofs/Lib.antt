@@ -1,3 +1,7 @@
 pub mod Moments
 pub mod Outside
 pub mod Told
+mod Contents
+mod Overlay
+mod Kept
+mod Either

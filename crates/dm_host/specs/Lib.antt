@@ -4,3 +4,5 @@ pub mod Readings
 pub mod Disk
 pub mod Works
 pub mod Faults
+pub mod Past
+pub mod MemoryBay

@@ -7,7 +7,11 @@
 #![tactic(auto)]
 
 mod bay;
+mod change;
 mod clock;
+mod faults;
+mod files;
+mod memory_bay;
 mod memory_clock;
 mod memory_sink;
 mod memory_source;
@@ -16,6 +20,7 @@ mod source;
 
 pub use bay::{Bay, read_synced, write_synced};
 pub use clock::Clock;
+pub use memory_bay::MemBay;
 pub use memory_clock::MemClock;
 pub use memory_sink::MemSink;
 pub use memory_source::MemSource;
@@ -25,3 +30,6 @@ pub use source::Source;
 /// The outside failed. The cause is known to the object alone, which counted it.
 #[derive(Clone, Copy, Debug, PartialEq, Eq)]
 pub struct Failed;
+
+#[cfg(test)]
+mod tests;
