@@ -88,7 +88,8 @@ pub fn put_front(
 ) -> Result<(), Failed>
     requires { n ≤ length bytes.now }
     ensures written { OnOk result (Written place (take n bytes.now) (contents files.old.items file) (contents files.new.items file)) }
-    ensures same { OnErr result (contents files.new.items ≡ contents files.old.items) }
+    ensures files { OnErr result (contents files.new.items ≡ contents files.old.items) }
+    ensures log { OnErr result (log.new.items ≡ log.old.items) }
     ensures torn { Torn place (length bytes.now) (contents files.old.items file) (contents files.new.items file) }
     ensures limit { OnOk result (place + length bytes.now ≤ 2 ^ 62) }
     ensures bounded { ((g : ℕ) → length (contents files.old.items g) ≤ 2 ^ 62) → (g : ℕ) → length (contents files.new.items g) ≤ 2 ^ 62 }
