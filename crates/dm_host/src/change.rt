@@ -1,5 +1,5 @@
 //! The log of a bay over memory: what each call changed.
-ghost use Rattle.std.specs.Prelude.{◌≡◌, ◌+◌, ◌<◌, ◌≤◌, ◌^◌, ◌↔◌, ◌++◌, [], ◌∷◌, ℕ, length, take, reverse, vec_len, vec_capacity, IfOk, OnOk, OnErr, IsTrue};
+ghost use Rattle.std.specs.Prelude.{◌≡◌, ◌+◌, ◌<◌, ◌≤◌, ◌^◌, ◌↔◌, ◌∷◌, ℕ, length, take, reverse, vec_len, vec_capacity, OnOk, OnErr, IsTrue};
 ghost use Rattle.dm_host.specs.Disk.{Torn, Written};
 ghost use Rattle.dm_host.specs.Past.{contents, disk_from, Puts};
 ghost use Rattle.dm_host.specs.Works.{Works, File, Follows};

@@ -1,5 +1,5 @@
 //! Which calls of a bay over memory fail, and how that is counted.
-ghost use Rattle.std.specs.Prelude.{◌≡◌, ◌⊎◌, ◌↔◌, ◌/◌, false, is_ok, if◌then◌else◌, IsErr, IsOk, IsFalse, IsTrue, OnErr, OnOk};
+ghost use Rattle.std.specs.Prelude.{◌≡◌, ◌⊎◌, ◌↔◌, ◌/◌, false, is_ok, if◌then◌else◌, IsErr, IsOk, IsTrue, OnOk};
 ghost use Rattle.dm_host.specs.Count.{HasCause};
 ghost use Rattle.dm_host.specs.Faults.{counted, is_blown, is_failing};
 
