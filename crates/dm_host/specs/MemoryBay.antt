@@ -24,3 +24,8 @@ pub record Stands (old new : MemBay) : Type 0 where
   pub fuse : new.fuse ≡ old.fuse
   pub calls : new.calls ≡ old.calls
   pub count : new.count ≡ old.count
+
+-- files and log are as they were
+pub record Untouched (old new : MemBay) : Type 0 where
+  pub files : contents new.files.items ≡ contents old.files.items
+  pub log : new.log.items ≡ old.log.items

@@ -13,10 +13,11 @@ contents [] g = []
 contents (file ∷ files) zero = file.items
 contents (file ∷ files) (suc g) = contents files g
 
--- a file of bytes with these at a place, zeros in the gap where that is past the end
+-- a file filled up with zeros to this length
 abbrev pub lengthened : ℕ → List ℕ → List ℕ
 lengthened end file = file ++ replicate (end - length file) 0
 
+-- a file with these bytes written over those at a place
 abbrev pub overlaid : ℕ → List ℕ → List ℕ → List ℕ
 overlaid place bytes file = take place file ++ bytes ++ drop (place + length bytes) file
 

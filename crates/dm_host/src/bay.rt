@@ -6,7 +6,7 @@
 //!
 //! Where the bay tells what its files hold, the clauses under `IsTrue told` say what a read gives. All others
 //! hold of every bay; one that doesn't tell has no outcomes of a crash and meets them emptily.
-ghost use Rattle.std.specs.Prelude.{◌≡◌, ◌⊎◌, ◌+◌, ◌<◌, ◌≤◌, ◌^◌, List, ℕ, length, slice_index, IfOk, OnOk, IsTrue};
+ghost use Rattle.std.specs.Prelude.{◌≡◌, ◌⊎◌, ◌+◌, ◌<◌, ◌≤◌, ◌^◌, ℕ, length, slice_index, IfOk, OnOk, IsTrue};
 ghost use Rattle.dm_host.specs.Count.{HasCause};
 ghost use Rattle.dm_host.specs.Disk.{Disk, Image, MayLeave, Only, Torn, Written, part, Same};
 ghost use Rattle.dm_host.specs.Works.{Works, File, Follows};

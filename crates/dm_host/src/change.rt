@@ -1,5 +1,5 @@
 //! The log of a bay over memory: what each call changed.
-ghost use Rattle.std.specs.Prelude.{◌≡◌, ◌+◌, ◌<◌, ◌≤◌, ◌^◌, ◌↔◌, ◌++◌, [], ◌∷◌, ℕ, length, take, reverse, vec_len, vec_capacity, IfOk, OnOk, OnErr, IsTrue};
+ghost use Rattle.std.specs.Prelude.{◌≡◌, ◌+◌, ◌<◌, ◌≤◌, ◌^◌, ◌↔◌, ◌∷◌, ℕ, length, take, reverse, vec_len, vec_capacity, OnOk, OnErr, IsTrue};
 ghost use Rattle.dm_host.specs.Disk.{Torn, Written};
 ghost use Rattle.dm_host.specs.Past.{contents, disk_from, Puts};
 ghost use Rattle.dm_host.specs.Works.{Works, File, Follows};
@@ -88,7 +88,8 @@ pub fn put_front(
 ) -> Result<(), Failed>
     requires { n ≤ length bytes.now }
     ensures written { OnOk result (Written place (take n bytes.now) (contents files.old.items file) (contents files.new.items file)) }
-    ensures same { OnErr result (contents files.new.items ≡ contents files.old.items) }
+    ensures files { OnErr result (contents files.new.items ≡ contents files.old.items) }
+    ensures log { OnErr result (log.new.items ≡ log.old.items) }
     ensures torn { Torn place (length bytes.now) (contents files.old.items file) (contents files.new.items file) }
     ensures limit { OnOk result (place + length bytes.now ≤ 2 ^ 62) }
     ensures bounded { ((g : ℕ) → length (contents files.old.items g) ≤ 2 ^ 62) → (g : ℕ) → length (contents files.new.items g) ≤ 2 ^ 62 }

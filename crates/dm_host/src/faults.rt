@@ -1,5 +1,5 @@
 //! Which calls of a bay over memory fail, and how that is counted.
-ghost use Rattle.std.specs.Prelude.{◌≡◌, ◌↔◌, ◌/◌, false, is_ok, if◌then◌else◌, IsErr, IsOk, IsFalse, IsTrue, OnOk};
+ghost use Rattle.std.specs.Prelude.{◌≡◌, ◌⊎◌, ◌↔◌, ◌/◌, false, is_ok, if◌then◌else◌, IsErr, IsOk, IsTrue, OnOk};
 ghost use Rattle.dm_host.specs.Count.{HasCause};
 ghost use Rattle.dm_host.specs.Faults.{counted, is_blown, is_failing};
 
@@ -52,6 +52,7 @@ pub fn front_of(failing: bool, len: usize) -> usize
 pub fn answer(failing: bool, put: Result<(), Failed>, count: &mut u64) -> Result<(), Failed>
     ensures put { OnOk result (IsOk put) }
     ensures failing { OnOk result (failing ≡ false) }
+    ensures err { IsErr result ↔ (IsTrue failing ⊎ IsErr put) }
     ensures count { count.new ≡ (if is_ok result then count.old else counted count.old) }
     ensures cause { HasCause count.old count.new result }
 {

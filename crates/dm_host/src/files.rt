@@ -1,5 +1,5 @@
 //! Numbered files in memory. A file that isn't there is one with no bytes.
-ghost use Rattle.std.specs.Prelude.{◌≡◌, ◌≢◌, ◌+◌, ◌<◌, ◌≤◌, ◌^◌, ℕ, length, take, drop, reverse, slice_set, vec_len, vec_capacity, IfOk, OnOk, OnErr};
+ghost use Rattle.std.specs.Prelude.{◌≡◌, ◌≢◌, ◌+◌, ◌<◌, ◌≤◌, ◌^◌, ℕ, length, take, drop, slice_set, vec_len, IfOk, OnOk, OnErr};
 ghost use Rattle.dm_host.specs.Disk.{part};
 ghost use Rattle.dm_host.specs.Past.{contents, lengthened, overlaid};
 

@@ -73,11 +73,11 @@ impl MemBay {
 }
 
 impl Bay for MemBay {
-    ghost use Rattle.std.specs.Prelude.{◌≡◌, ◌⊎◌, ◌↔◌, ◌+◌, ◌/◌, ◌<◌, take, reverse, IfOk, OnOk, IsErr, IsTrue};
+    ghost use Rattle.std.specs.Prelude.{◌≡◌, ◌⊎◌, ◌↔◌, ◌+◌, ◌/◌, ◌<◌, take, reverse, IfOk, OnErr, OnOk, IsErr, IsTrue};
     ghost use Rattle.std.proofs.Common.{inl, refl};
     ghost use Rattle.dm_host.specs.Count.{HasCause};
     ghost use Rattle.dm_host.specs.Disk.{Only, Torn, Written, part, Same};
-    ghost use Rattle.dm_host.specs.MemoryBay.{disk_of, fails_next, Goes};
+    ghost use Rattle.dm_host.specs.MemoryBay.{disk_of, fails_next, Goes, Untouched};
     ghost use Rattle.dm_host.specs.Past.{now_alone, now_counts};
     ghost use Rattle.dm_host.specs.Works.{Works, File, Follows};
 
@@ -101,6 +101,7 @@ impl Bay for MemBay {
         ensures works { Works (File file) (disk_of self.old) (disk_of self.new) (Follows Same file (disk_of self.old)) }
         ensures cause { HasCause self.old.count self.new.count result }
         ensures fails { IsErr result ↔ IsTrue (fails_next self.old) }
+        ensures untouched { Untouched self.old self.new }
         ensures goes { Goes self.old self.new }
     {
         begin(&mut self.calls, &mut self.count, &self.fail, self.fuse)?;
@@ -115,6 +116,7 @@ impl Bay for MemBay {
         ensures works { Works (File file) (disk_of self.old) (disk_of self.new) (Follows Same file (disk_of self.old)) }
         ensures cause { HasCause self.old.count self.new.count result }
         ensures fails { IsErr result ↔ IsTrue (fails_next self.old) }
+        ensures untouched { Untouched self.old self.new }
         ensures goes { Goes self.old self.new }
     {
         begin(&mut self.calls, &mut self.count, &self.fail, self.fuse)?;
@@ -131,10 +133,11 @@ impl Bay for MemBay {
         ensures works { Works (File file) (disk_of self.old) (disk_of self.new) (Follows (Torn place (length bytes.now)) file (disk_of self.old)) }
         ensures cause { HasCause self.old.count self.new.count result }
         ensures fails { IsTrue (fails_next self.old) → IsErr result }
-        // It has written the first half, or memory was refused to it, or it would end past the limit.
+        // It has written the first half, or memory was refused to that too, or it would end past the limit.
         ensures half { IsTrue (fails_next self.old)
             → Written place (take (length bytes.now / 2) bytes.now) ((disk_of self.old).seen file) ((disk_of self.new).seen file)
-            ⊎ ((disk_of self.new).seen file ≡ (disk_of self.old).seen file) }
+            ⊎ Untouched self.old self.new }
+        ensures untouched { OnErr result (IsTrue (fails_next self.old) ⊎ Untouched self.old self.new) }
         ensures goes { Goes self.old self.new }
     {
         self.calls = self.calls.saturating_add(1);
@@ -159,6 +162,7 @@ impl Bay for MemBay {
         ensures works { Works (File file) (disk_of self.old) (disk_of self.new) (Follows Same file (disk_of self.old)) }
         ensures cause { HasCause self.old.count self.new.count result }
         ensures fails { IsTrue (fails_next self.old) → IsErr result }
+        ensures untouched { OnErr result (Untouched self.old self.new) }
         ensures goes { Goes self.old self.new }
     {
         begin(&mut self.calls, &mut self.count, &self.fail, self.fuse)?;

@@ -35,6 +35,7 @@ impl Sink for MemSink {
         ensures still { self.new.piece ≡ 0 → self.old.piece ≡ 0 }
         ensures cause { HasCause self.old.count self.new.count result }
         ensures piece { IfOk result (λ n. n ≡ min self.old.piece (length bytes.now)) }
+        ensures choice { (self.new.piece ≡ self.old.piece) × (self.new.fail.items ≡ self.old.fail.items) }
         ensures calls { self.new.calls ≡ counted self.old.calls }
         ensures fails { IsTrue (is_numbered self.old.fail.items self.new.calls) → IsErr result }
         ensures count { self.new.count ≡ (if is_ok result then self.old.count else counted self.old.count) }

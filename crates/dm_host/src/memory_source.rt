@@ -33,6 +33,8 @@ impl Source for MemSource {
         ensures reads { Reads (Some (drop self.old.at self.old.bytes.items)) (Some (drop self.new.at self.new.bytes.items)) (length into.old) into.new result }
         ensures cause { HasCause self.old.count self.new.count result }
         ensures piece { IfOk result (λ n. n ≡ min (min (max self.old.piece 1) (length self.old.bytes.items - self.old.at)) (length into.old)) }
+        ensures kept { self.new.bytes.items ≡ self.old.bytes.items }
+        ensures choice { (self.new.piece ≡ self.old.piece) × (self.new.fail.items ≡ self.old.fail.items) }
         ensures calls { self.new.calls ≡ counted self.old.calls }
         ensures fails { IsErr result ↔ IsTrue (is_numbered self.old.fail.items self.new.calls) }
         ensures count { self.new.count ≡ (if is_ok result then self.old.count else counted self.old.count) }

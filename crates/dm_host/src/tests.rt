@@ -1,6 +1,5 @@
 //! What no clause says: that calls succeed while memory is ample, and that each type is usable through its trait.
-ghost use Rattle.std.specs.Prelude.{ℕ, [], false};
-ghost use Rattle.dm_host.specs.Disk.{Disk};
+ghost use Rattle.std.specs.Prelude.{[], false};
 ghost use Rattle.std.proofs.Common.{rules};
 
 use crate::{
