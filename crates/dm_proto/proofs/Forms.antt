@@ -25,50 +25,50 @@ Settled P = P ⊎ (P → ⊥)
 same_bytes : (a b : List ℕ) → Settled (a ≡ b)
 same_bytes a b =
     elim (cases_Bool (bytes_eq a b)) [
-      inl e ↦ inl ((bytes_eq-Decides a b).0 e)
-    | inr e ↦ inr (λ s. false≢true (sym e ∙ (bytes_eq-Decides a b).1 s))
+      | inl e ↦ inl ((bytes_eq-Decides a b).0 e)
+      | inr e ↦ inr (λ s. false≢true (sym e ∙ (bytes_eq-Decides a b).1 s))
     ]
 
 settled_digit : (b : ℕ) → Settled (IsAsciiDigit b)
 settled_digit b =
     elim (cases_lt b 48) [
-      inl l ↦ inr (λ d. omega arith)
-    | inr l ↦ elim (cases_lt 57 b) [ inl m ↦ inr (λ d. omega arith) | inr m ↦ inl (l, m) ]
+      | inl l ↦ inr (λ d. omega arith)
+      | inr l ↦ elim (cases_lt 57 b) [ inl m ↦ inr (λ d. omega arith) | inr m ↦ inl (l, m) ]
     ]
 
 settled_digits : (ds : List ℕ) → Settled (AllByRecursion IsAsciiDigit ds)
 settled_digits [] = inl tt
 settled_digits (d ∷ ds) =
     elim (settled_digit d) [
-      inl h ↦ elim (settled_digits ds) [ inl hs ↦ inl (h, hs) | inr n ↦ inr (λ a. n a.1) ]
-    | inr n ↦ inr (λ a. n a.0)
+      | inl h ↦ elim (settled_digits ds) [ inl hs ↦ inl (h, hs) | inr n ↦ inr (λ a. n a.1) ]
+      | inr n ↦ inr (λ a. n a.0)
     ]
 
 settled_number : (ds : List ℕ) → Settled (IsNumber ds)
 settled_number ds =
     elim (cases_lt 0 (length ds)) [
-      inl some ↦ elim (cases_lt 19 (length ds)) [
-        inl many ↦ inr (λ n. omega (arith, n.few))
-      | inr few ↦ elim (settled_digits ds) [
-          inl each ↦ inl (record { some = some; few = few; each = each })
-        | inr h ↦ inr (λ n. h n.each)
+      | inl some ↦ elim (cases_lt 19 (length ds)) [
+        | inl many ↦ inr (λ n. omega (arith, n.few))
+        | inr few ↦ elim (settled_digits ds) [
+          | inl each ↦ inl (record { some = some; few = few; each = each })
+          | inr h ↦ inr (λ n. h n.each)
         ]
       ]
-    | inr none ↦ inr (λ n. omega (arith, n.some))
+      | inr none ↦ inr (λ n. omega (arith, n.some))
     ]
 
 settled_path : (text : List ℕ) → Settled (IsPath text)
 settled_path [] = inr (none_empty [] refl)
 settled_path (b ∷ bs) =
     elim (cases_eq b 47) [
-      inl slash ↦ elim (cases_lt 255 (length (b ∷ bs))) [
-        inl long ↦ inr (λ p. omega (arith, p.fits))
-      | inr fits ↦ elim (cases_Bool (is_spelled false bs)) [
-          inl passes ↦ inl ((decided (b ∷ bs) b bs (is_spelled false bs) refl slash fits refl).0 passes)
-        | inr fails ↦ inr (λ p. false≢true (sym fails ∙ (decided (b ∷ bs) b bs (is_spelled false bs) refl slash fits refl).1 p))
+      | inl slash ↦ elim (cases_lt 255 (length (b ∷ bs))) [
+        | inl long ↦ inr (λ p. omega (arith, p.fits))
+        | inr fits ↦ elim (cases_Bool (is_spelled false bs)) [
+          | inl passes ↦ inl ((decided (b ∷ bs) b bs (is_spelled false bs) refl slash fits refl).0 passes)
+          | inr fails ↦ inr (λ p. false≢true (sym fails ∙ (decided (b ∷ bs) b bs (is_spelled false bs) refl slash fits refl).1 p))
         ]
       ]
-    | inr other ↦ inr (none_unslashed (b ∷ bs) b bs refl other)
+      | inr other ↦ inr (none_unslashed (b ∷ bs) b bs refl other)
     ]
 
 -- a line with a word is a syntax line where it is the line of no command
@@ -174,11 +174,11 @@ syntax_two line a b e read = syntax_from line (λ f. cc) (λ path size w. let f 
 form_two : (line a b : List ℕ) → words line ≡ a ∷ b ∷ [] → Form line
 form_two line a b e =
     elim (same_bytes a (codes "read")) [
-      inl is ↦ elim (settled_path b) [
-        inl p ↦ form_read line b (record { spelled = e ∙ ap (λ x. x ∷ b ∷ []) is; is_path = p })
-      | inr n ↦ form_syntax line (syntax_two line a b e (λ path r. let f = r.spelled in n (let same : path ≡ b = cc in subst IsPath same r.is_path)))
+      | inl is ↦ elim (settled_path b) [
+        | inl p ↦ form_read line b (record { spelled = e ∙ ap (λ x. x ∷ b ∷ []) is; is_path = p })
+        | inr n ↦ form_syntax line (syntax_two line a b e (λ path r. let f = r.spelled in n (let same : path ≡ b = cc in subst IsPath same r.is_path)))
       ]
-    | inr other ↦ form_syntax line (syntax_two line a b e (λ path r. let f = r.spelled in other (cc)))
+      | inr other ↦ form_syntax line (syntax_two line a b e (λ path r. let f = r.spelled in other (cc)))
     ]
 
 -- lines of three words
@@ -195,38 +195,38 @@ pub syntax_write : (line a b c : List ℕ) → words line ≡ a ∷ b ∷ c ∷ 
 syntax_write line a b c e is not_all =
     syntax_three line a b c e
     (λ path size w.
-      let f = w.spelled in
-      let path_is : path ≡ b = cc in
-      let digits_is : w.digits ≡ c = cc in
-      not_all (subst IsPath path_is w.is_path) (subst IsNumber digits_is w.is_number) (subst (λ (x : List ℕ). digits_value 10 x ≤ write_limit) digits_is (subst (λ (x : ℕ). x ≤ write_limit) (sym w.value) w.fits)))
+    let f = w.spelled in
+    let path_is : path ≡ b = cc in
+    let digits_is : w.digits ≡ c = cc in
+    not_all (subst IsPath path_is w.is_path) (subst IsNumber digits_is w.is_number) (subst (λ (x : List ℕ). digits_value 10 x ≤ write_limit) digits_is (subst (λ (x : ℕ). x ≤ write_limit) (sym w.value) w.fits)))
     (λ path w. let f = w.spelled in write_is_not_put (cc))
 
 form_three_write : (line a b c : List ℕ) → words line ≡ a ∷ b ∷ c ∷ [] → a ≡ codes "write" → Form line
 form_three_write line a b c e is =
     elim (settled_path b) [
-      inl p ↦ elim (settled_number c) [
-        inl n ↦ elim (cases_lt write_limit (digits_value 10 c)) [
-          inl over ↦ form_syntax line (syntax_write line a b c e is (λ _ _ l. omega (arith, l, over)))
-        | inr l ↦ form_write line b (digits_value 10 c) (record { digits = c; spelled = e ∙ ap (λ x. x ∷ b ∷ c ∷ []) is; is_path = p; is_number = n; value = refl; fits = l })
+      | inl p ↦ elim (settled_number c) [
+        | inl n ↦ elim (cases_lt write_limit (digits_value 10 c)) [
+          | inl over ↦ form_syntax line (syntax_write line a b c e is (λ _ _ l. omega (arith, l, over)))
+          | inr l ↦ form_write line b (digits_value 10 c) (record { digits = c; spelled = e ∙ ap (λ x. x ∷ b ∷ c ∷ []) is; is_path = p; is_number = n; value = refl; fits = l })
         ]
-      | inr h ↦ form_syntax line (syntax_write line a b c e is (λ _ n _. h n))
+        | inr h ↦ form_syntax line (syntax_write line a b c e is (λ _ n _. h n))
       ]
-    | inr h ↦ form_syntax line (syntax_write line a b c e is (λ p _ _. h p))
+      | inr h ↦ form_syntax line (syntax_write line a b c e is (λ p _ _. h p))
     ]
 
 form_three : (line a b c : List ℕ) → words line ≡ a ∷ b ∷ c ∷ [] → Form line
 form_three line a b c e =
     elim (same_bytes a (codes "write")) [
-      inl is ↦ form_three_write line a b c e is
-    | inr not_write ↦ elim (same_bytes a (codes "put")) [
-        inl is ↦ elim (same_bytes b (codes "-r")) [
-          inl has ↦ elim (settled_path c) [
-            inl p ↦ form_put line c (record { spelled = cc; is_path = p })
-          | inr n ↦ form_syntax line (syntax_put line a b c e not_write (λ _ _ p. n p))
+      | inl is ↦ form_three_write line a b c e is
+      | inr not_write ↦ elim (same_bytes a (codes "put")) [
+        | inl is ↦ elim (same_bytes b (codes "-r")) [
+          | inl has ↦ elim (settled_path c) [
+            | inl p ↦ form_put line c (record { spelled = cc; is_path = p })
+            | inr n ↦ form_syntax line (syntax_put line a b c e not_write (λ _ _ p. n p))
           ]
-        | inr n ↦ form_syntax line (syntax_put line a b c e not_write (λ _ h _. n h))
+          | inr n ↦ form_syntax line (syntax_put line a b c e not_write (λ _ h _. n h))
         ]
-      | inr n ↦ form_syntax line (syntax_put line a b c e not_write (λ h _ _. n h))
+        | inr n ↦ form_syntax line (syntax_put line a b c e not_write (λ h _ _. n h))
       ]
     ]
 

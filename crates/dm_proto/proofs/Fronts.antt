@@ -80,8 +80,8 @@ not_blank input (item heard rest) m z i b e = line_not_blank input m z (item_lin
 not_blank input (end AtEnd) m z i b e = no_end_inside [] m z tt (sym i ∙ e)
 not_blank input (end Inside) m z i b e =
     elim i.either [
-      inl l ↦ no_end_inside input m z l.no_end e
-    | inr p ↦ line_not_blank input m z (partial_line input p) b e
+      | inl l ↦ no_end_inside input m z l.no_end e
+      | inr p ↦ line_not_blank input m z (partial_line input p) b e
     ]
 not_blank input (end TooLong) m z i b e = no_end_front i.front m i.rest z i.long.no_end (omega (arith, i.long.long, b.is_line.fits)) (sym i.spelled ∙ e)
 
@@ -109,10 +109,10 @@ line_not_long : (input : List ℕ) → HasLine input → IsLongFront input → �
 line_not_long input h l = no_end_front l.front h.line l.rest h.payload l.long.no_end (omega (arith, l.long.long, h.is_line.fits)) (sym l.spelled ∙ h.spelled)
 
 same_parts : (a b x y : List ℕ) → length a ≡ length b → a ++ x ≡ b ++ y → (a ≡ b) × (x ≡ y)
-same_parts a b x y l e =
-    ( sym (take_at a x (length a) refl) ∙ ap (take (length a)) e ∙ take_at b y (length a) (sym l)
-    , sym (drop_at a x (length a) refl) ∙ ap (drop (length a)) e ∙ drop_at b y (length a) (sym l)
-    )
+same_parts a b x y l e = (
+  sym (take_at a x (length a) refl) ∙ ap (take (length a)) e ∙ take_at b y (length a) (sym l),
+  sym (drop_at a x (length a) refl) ∙ ap (drop (length a)) e ∙ drop_at b y (length a) (sym l),
+)
 
 -- two texts at the front of one input are heard as the same
 same_item : (input : List ℕ) (h k : Heard) (r s : List ℕ) → IsItem input h r → IsItem input k s → item h r ≡ item k s
@@ -146,15 +146,15 @@ item_not_partial input h r i p =
 partial_not_long : (input : List ℕ) → IsUnfinished input → IsLongFront input → ⊥
 partial_not_long input u l =
     elim u.either [
-      inl s ↦ omega (arith, s.fits, l.long.long, ap length l.spelled, length-append l.front l.rest)
-    | inr p ↦ line_not_long input (partial_line input p) l
+      | inl s ↦ omega (arith, s.fits, l.long.long, ap length l.spelled, length-append l.front l.rest)
+      | inr p ↦ line_not_long input (partial_line input p) l
     ]
 
 item_not_unfinished : (input : List ℕ) (h : Heard) (r : List ℕ) → IsItem input h r → IsUnfinished input → ⊥
 item_not_unfinished input h r i u =
     elim u.either [
-      inl s ↦ line_not_short input (item_line input h r i) s
-    | inr p ↦ item_not_partial input h r i p
+      | inl s ↦ line_not_short input (item_line input h r i) s
+      | inr p ↦ item_not_partial input h r i p
     ]
 
 long_not_end : (input : List ℕ) → IsLongFront input → input ≡ [] → ⊥

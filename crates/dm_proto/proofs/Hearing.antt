@@ -152,16 +152,16 @@ long_front a rest p l = record {
 heard_bare : (input : List ℕ) → HasNoEnd input → IsHeard input
 heard_bare input p =
     elim (cases_lt line_limit (length input)) [
-      inl l ↦ is_ended input TooLong (subst (λ (x : List ℕ). Ends x TooLong) (append-nil input) (long_front input [] p l))
-    | inr fits ↦ elim (cases_lt 0 (length input)) [
-        inl some ↦ is_ended input Inside (record {
+      | inl l ↦ is_ended input TooLong (subst (λ (x : List ℕ). Ends x TooLong) (append-nil input) (long_front input [] p l))
+      | inr fits ↦ elim (cases_lt 0 (length input)) [
+        | inl some ↦ is_ended input Inside (record {
           blank = [];
           begun = input;
           are_blank = blank_none;
           unfinished = record { some = some; either = inl (record { fits = fits; no_end = p }) };
           spelled = refl;
         })
-      | inr none ↦ is_ended input AtEnd (subst AreBlank (sym (nil_from_length input (omega arith))) blank_none)
+        | inr none ↦ is_ended input AtEnd (subst AreBlank (sym (nil_from_length input (omega arith))) blank_none)
       ]
     ]
 
@@ -177,7 +177,7 @@ heard_text : (n : ℕ) → HeardBelow n → (line rest : List ℕ) → IsLine li
 heard_text n below line rest is_line some small =
     let form = form_of line some in
     elim (cases_lt (length rest) form.size) [
-      inl missing ↦ is_ended (line ++ 10 ∷ rest) Inside (record {
+      | inl missing ↦ is_ended (line ++ 10 ∷ rest) Inside (record {
         blank = [];
         begun = line ++ 10 ∷ rest;
         are_blank = blank_none;
@@ -196,55 +196,57 @@ heard_text n below line rest is_line some small =
         };
         spelled = refl;
       })
-    | inr whole ↦
-        let payload = take form.size rest in
-        let behind = drop form.size rest in
-        let later = below behind (omega (arith, length-drop form.size rest)) in
-        record {
-          items = form.hear payload ∷ later.items;
-          ending = later.ending;
-          hears = ( behind
-                  , record {
-                      blank = [];
-                      text = line ++ 10 ∷ payload;
-                      are_blank = blank_none;
-                      is_text = record {
-                        line = line;
-                        payload = payload;
-                        is_line = is_line;
-                        means = form.heard payload (length-take-le form.size rest whole);
-                        spelled = refl;
-                      };
-                      spelled = ap (λ x. line ++ 10 ∷ x) (sym (take-append-drop form.size rest)) ∙ sym (append_assoc line (10 ∷ payload) behind);
-                    }
-                  , later.hears );
-        }
+      | inr whole ↦
+          let payload = take form.size rest in
+          let behind = drop form.size rest in
+          let later = below behind (omega (arith, length-drop form.size rest)) in
+          record {
+            items = form.hear payload ∷ later.items;
+            ending = later.ending;
+            hears = (
+              behind,
+              record {
+                blank = [];
+                text = line ++ 10 ∷ payload;
+                are_blank = blank_none;
+                is_text = record {
+                  line = line;
+                  payload = payload;
+                  is_line = is_line;
+                  means = form.heard payload (length-take-le form.size rest whole);
+                  spelled = refl;
+                };
+                spelled = ap (λ x. line ++ 10 ∷ x) (sym (take-append-drop form.size rest)) ∙ sym (append_assoc line (10 ∷ payload) behind);
+              },
+              later.hears,
+            );
+          }
     ]
 
 heard_line : (n : ℕ) → HeardBelow n → (line rest : List ℕ) → IsLine line → length rest < n → IsHeard (line ++ 10 ∷ rest)
 heard_line n below line rest is_line small =
     elim (settled_words (words line)) [
-      inl none ↦
-        let later = below rest small in
-        record {
-          items = later.items;
-          ending = later.ending;
-          hears = subst (λ (x : List ℕ). Hears x later.items later.ending) (append_assoc line (10 ∷ []) rest)
-            (blank_hears (ended line) rest later.items later.ending (blank_line line (record { is_line = is_line; no_word = none })) later.hears);
-        }
-    | inr some ↦ heard_text n below line rest is_line some small
+      | inl none ↦
+          let later = below rest small in
+          record {
+            items = later.items;
+            ending = later.ending;
+            hears = subst (λ (x : List ℕ). Hears x later.items later.ending) (append_assoc line (10 ∷ []) rest)
+                (blank_hears (ended line) rest later.items later.ending (blank_line line (record { is_line = is_line; no_word = none })) later.hears);
+          }
+      | inr some ↦ heard_text n below line rest is_line some small
     ]
 
 is_heard_below : (n : ℕ) → HeardBelow n
 is_heard_below zero input small = absurd (omega arith)
 is_heard_below (suc n) input small =
     elim (first_line input) [
-      inl f ↦ elim (cases_lt line_limit (length f.0)) [
-        inl l ↦ is_ended input TooLong (subst (λ (x : List ℕ). Ends x TooLong) (sym f.2.spelled) (long_front f.0 (10 ∷ f.1) f.2.no_end l))
-      | inr fits ↦ subst IsHeard (sym f.2.spelled)
-          (heard_line n (is_heard_below n) f.0 f.1 (record { fits = fits; no_end = f.2.no_end }) (omega (arith, ap length f.2.spelled, length-append f.0 (10 ∷ f.1))))
+      | inl f ↦ elim (cases_lt line_limit (length f.0)) [
+        | inl l ↦ is_ended input TooLong (subst (λ (x : List ℕ). Ends x TooLong) (sym f.2.spelled) (long_front f.0 (10 ∷ f.1) f.2.no_end l))
+        | inr fits ↦ subst IsHeard (sym f.2.spelled)
+            (heard_line n (is_heard_below n) f.0 f.1 (record { fits = fits; no_end = f.2.no_end }) (omega (arith, ap length f.2.spelled, length-append f.0 (10 ∷ f.1))))
       ]
-    | inr p ↦ heard_bare input p
+      | inr p ↦ heard_bare input p
     ]
 
 pub hears_some : (input : List ℕ) → IsHeard input

@@ -45,9 +45,9 @@ pub first_line : (bytes : List ℕ) → ((line : List ℕ) × (rest : List ℕ) 
 first_line [] = inr tt
 first_line (b ∷ bytes) =
     elim (cases_eq b 10) [
-      inl e ↦ inl ([], bytes, record { no_end = tt; spelled = ap (λ x. x ∷ bytes) e })
-    | inr e ↦ elim (first_line bytes) [
-        inl f ↦ inl (b ∷ f.0, f.1, record { no_end = (e, f.2.no_end); spelled = ap (λ bs. b ∷ bs) f.2.spelled })
-      | inr h ↦ inr (e, h)
+      | inl e ↦ inl ([], bytes, record { no_end = tt; spelled = ap (λ x. x ∷ bytes) e })
+      | inr e ↦ elim (first_line bytes) [
+        | inl f ↦ inl (b ∷ f.0, f.1, record { no_end = (e, f.2.no_end); spelled = ap (λ bs. b ∷ bs) f.2.spelled })
+        | inr h ↦ inr (e, h)
       ]
     ]

@@ -31,8 +31,8 @@ pub parts-skip : (text : List ℕ) → parts (drop (position_or_len (λ b. not (
 parts-skip [] = refl
 parts-skip (b ∷ bs) =
     elim (cases_Bool (is_space b)) [
-      inl e ↦ skip_yes b bs e (parts-skip bs)
-    | inr e ↦ skip_no b bs e
+      | inl e ↦ skip_yes b bs e (parts-skip bs)
+      | inr e ↦ skip_no b bs e
     ]
 
 -- what is left begins with a word
@@ -51,11 +51,11 @@ keep part rest l = cond-true (nat_lt 0 (length part)) _ _ (lt-ltb 0 (length part
 some_place : (text : List ℕ) → 0 < length text → get_or text 0 0 ≢ 32 → 0 < position_or_len is_space text
 some_place text some front =
     elim (cases_lt 0 (position_or_len is_space text)) [
-      inl l ↦ l
-    | inr l ↦
-        let e : position_or_len is_space text ≡ 0 = omega arith in
-        let passes = passes_at_first is_space text 0 (omega arith) in
-        absurd (front (eqb-true _ 32 (subst (λ (k : ℕ). is_space (get_or text k 0) ≡ true) e passes)))
+      | inl l ↦ l
+      | inr l ↦
+          let e : position_or_len is_space text ≡ 0 = omega arith in
+          let passes = passes_at_first is_space text 0 (omega arith) in
+          absurd (front (eqb-true _ 32 (subst (λ (k : ℕ). is_space (get_or text k 0) ≡ true) e passes)))
     ]
 
 word_then : (text : List ℕ) → 0 < position_or_len is_space text → position_or_len is_space text < length text → parts text ≡ take (position_or_len is_space text) text ∷ parts (drop (position_or_len is_space text) text)
@@ -76,16 +76,16 @@ word_last text some l =
 pub first_part : (text : List ℕ) → 0 < length text → get_or text 0 0 ≢ 32 → parts text ≡ take (position_or_len is_space text) text ∷ parts (drop (position_or_len is_space text) text)
 first_part text some front =
     elim (cases_lt (position_or_len is_space text) (length text)) [
-      inl l ↦ word_then text (some_place text some front) l
-    | inr l ↦ word_last text some l
+      | inl l ↦ word_then text (some_place text some front) l
+      | inr l ↦ word_last text some l
     ]
 
 -- the first place, or the length where there is none
 pub place_is : (p : ℕ → Bool) (xs : List ℕ) → unwrap_or (position p xs) (length xs) ≡ position_or_len p xs
 place_is p xs = elim (cases_lt (position_or_len p xs) (length xs)) [
-    inl l ↦ ap (λ (o : Option ℕ). unwrap_or o (length xs)) (cond-true (nat_lt (position_or_len p xs) (length xs)) (Some (position_or_len p xs)) None (lt-ltb _ _ l))
+  | inl l ↦ ap (λ (o : Option ℕ). unwrap_or o (length xs)) (cond-true (nat_lt (position_or_len p xs) (length xs)) (Some (position_or_len p xs)) None (lt-ltb _ _ l))
   | inr l ↦ ap (λ (o : Option ℕ). unwrap_or o (length xs)) (cond-false (nat_lt (position_or_len p xs) (length xs)) (Some (position_or_len p xs)) None (le-ltb _ _ l)) ∙ (let m = prefix_len-le-length (λ x. not (p x)) xs in omega (arith, m, l))
-  ]
+]
 
 pub place_fits : (p : ℕ → Bool) (xs : List ℕ) → position_or_len p xs ≤ length xs
 place_fits p xs = prefix_len-le-length (λ x. not (p x)) xs

@@ -14,7 +14,8 @@ use Rattle.dm_base.specs.declared.command.Command.TheVariants.{Write}
 use Rattle.dm_proto.specs.Words.{words, IsLine, HasNoEnd, line_limit, ended}
 use Rattle.dm_proto.specs.Grammar.{IsWrite}
 use Rattle.dm_proto.specs.Stream.{Means, IsText, Ends, Inside, TooLong, Consumes, IsUnfinished}
-use Rattle.dm_proto.specs.Reading.{begun_of, IsHeld, IsEnded, IsStep, MayBegin}
+use Rattle.dm_proto.specs.Reading.{MayBegin}
+use Rattle.dm_proto.specs.Holding.{begun_of, IsHeld, IsEnded, IsStep}
 use Rattle.dm_proto.specs.declared.heard.Heard.{Heard}
 use Rattle.dm_proto.specs.declared.heard.Heard.TheVariants as heard
 use Rattle.dm_proto.specs.declared.step.Payload.{Payload}
@@ -30,11 +31,11 @@ end_none xs l = recursion_from_All (λ b. b ≢ 10) xs (λ k d h. eqb-false (get
 
 pub end_nowhere : (xs : List ℕ) → position is_end xs ≡ None → HasNoEnd xs
 end_nowhere xs e = elim (cases_lt (position_or_len is_end xs) (length xs)) [
-    inl l ↦
+  | inl l ↦
       let some : position is_end xs ≡ Some (position_or_len is_end xs) = cond-true (nat_lt (position_or_len is_end xs) (length xs)) _ _ (lt-ltb _ _ l) in
       absurd (cc)
   | inr l ↦ end_none xs l
-  ]
+]
 
 pub record IsEndAt (xs : List ℕ) (i : ℕ) : Type 0 where
   pub inside : i < length xs
@@ -45,7 +46,7 @@ pub end_some : (xs : List ℕ) (i : ℕ) → position is_end xs ≡ Some i → I
 end_some xs i e =
     let p = position-Some is_end xs i 0 e in
     let none : All (λ b. b ≢ 10) (take i xs) = λ k d h. let below : k < i = omega (arith, h, length-take-le i xs (omega (arith, p.0))) in
-      let other = λ (f : get_or (take i xs) k d ≡ 10). eqb-false (get_or xs k 0) 10 (p.2 k below) (sym (get_or_default xs k d 0 (omega (arith, p.0))) ∙ sym (get_or-take i xs k d below) ∙ f) in other
+    let other = λ (f : get_or (take i xs) k d ≡ 10). eqb-false (get_or xs k 0) 10 (p.2 k below) (sym (get_or_default xs k d 0 (omega (arith, p.0))) ∙ sym (get_or-take i xs k d below) ∙ f) in other
     in
     record {
       inside = p.0;
@@ -68,7 +69,7 @@ long_all l b rest p q long = long_front (l ++ b) rest (no_end-append l b p q) (o
 pub long_part : (l b rest : List ℕ) (n : ℕ) → HasNoEnd l → HasNoEnd (take n b) → line_limit < length l + length (take n b) → Ends ((l ++ b) ++ rest) TooLong
 long_part l b rest n p q long =
     let split : (l ++ take n b) ++ (drop n b ++ rest) ≡ (l ++ b) ++ rest =
-      append_assoc l (take n b) (drop n b ++ rest) ∙ ap (λ x. l ++ x) (sym (append_assoc (take n b) (drop n b) rest) ∙ ap (λ x. x ++ rest) (take-append-drop n b)) ∙ sym (append_assoc l b rest)
+    append_assoc l (take n b) (drop n b ++ rest) ∙ ap (λ x. l ++ x) (sym (append_assoc (take n b) (drop n b) rest) ∙ ap (λ x. x ++ rest) (take-append-drop n b)) ∙ sym (append_assoc l b rest)
     in
     subst (λ (x : List ℕ). Ends x TooLong) split (long_all l (take n b) (drop n b ++ rest) p q long)
 
@@ -105,7 +106,7 @@ step_part line bytes new e l = record {
 pub step_line : (line bytes new : List ℕ) (end : ℕ) (payload : Option Payload) (ready : Option Heard) → IsEndAt bytes end → IsEnded (line ++ take end bytes) new payload ready → IsStep line bytes new (record { taken = end + 1; payload = payload; ready = ready })
 step_line line bytes new end payload ready at e =
     let more : (line ++ take end bytes) ++ 10 ∷ [] ≡ line ++ take (end + 1) bytes =
-      append_assoc line (take end bytes) (10 ∷ []) ∙ ap (λ x. line ++ (take end bytes ++ x ∷ [])) (sym at.at) ∙ ap (λ x. line ++ x) (sym (take_more bytes end 0 at.inside))
+    append_assoc line (take end bytes) (10 ∷ []) ∙ ap (λ x. line ++ (take end bytes ++ x ∷ [])) (sym at.at) ∙ ap (λ x. line ++ x) (sym (take_more bytes end 0 at.inside))
     in
     record {
       fits = omega (arith, at.inside);
@@ -133,13 +134,13 @@ pub step_payload : (line path held bytes new command : List ℕ) (size missing :
 step_payload line path held bytes new command size missing l w some e fits none is =
     let h = heard.Command (Write path command) in
     let text : IsText (line ++ 10 ∷ (held ++ take missing bytes)) h =
-      subst (λ (x : List ℕ). IsText (line ++ 10 ∷ (held ++ take missing bytes)) (heard.Command (Write path x))) (sym is) (payload_whole line path held bytes size missing l w some e fits)
+    subst (λ (x : List ℕ). IsText (line ++ 10 ∷ (held ++ take missing bytes)) (heard.Command (Write path x))) (sym is) (payload_whole line path held bytes size missing l w some e fits)
     in
     record {
       fits = fits;
       goes = λ _. omega (arith, e, some);
       heard = subst (λ (x : List ℕ). Consumes ((line ++ 10 ∷ held) ++ take missing bytes) (h ∷ []) x) (sym none)
-        (subst (λ (x : List ℕ). Consumes x (h ∷ []) []) (sym (append_assoc line (10 ∷ held) (take missing bytes))) (consumes_text _ h text));
+          (subst (λ (x : List ℕ). Consumes x (h ∷ []) []) (sym (append_assoc line (10 ∷ held) (take missing bytes))) (consumes_text _ h text));
       held = subst IsLine (sym none) (record { fits = lit≤ tt; no_end = tt });
       idle = none;
     }
@@ -186,18 +187,18 @@ inside_is line payload false h e =
 pub step_on : (begun bytes mid left : List ℕ) (taken more : ℕ) (hs : List Heard) → Consumes (begun ++ take taken bytes) [] mid → Consumes (mid ++ take more (drop taken bytes)) hs left → Consumes (begun ++ take (taken + more) bytes) hs left
 step_on begun bytes mid left taken more hs c d =
     let pieces : (begun ++ take taken bytes) ++ take more (drop taken bytes) ≡ begun ++ take (taken + more) bytes =
-      append_assoc begun (take taken bytes) (take more (drop taken bytes)) ∙ ap (λ x. begun ++ x) (sym (take-add taken more bytes))
+    append_assoc begun (take taken bytes) (take more (drop taken bytes)) ∙ ap (λ x. begun ++ x) (sym (take-add taken more bytes))
     in
     subst (λ (x : List ℕ). Consumes x hs left) pieces
-      (consumes_on ((begun ++ take taken bytes) ++ take more (drop taken bytes)) [] (mid ++ take more (drop taken bytes)) left hs (consumes_more (begun ++ take taken bytes) [] mid c (take more (drop taken bytes))) d)
+    (consumes_on ((begun ++ take taken bytes) ++ take more (drop taken bytes)) [] (mid ++ take more (drop taken bytes)) left hs (consumes_more (begun ++ take taken bytes) [] mid c (take more (drop taken bytes))) d)
 
 -- what a step finds too long is too long behind what was consumed
 pub long_on : (begun bytes mid : List ℕ) (taken : ℕ) → Consumes (begun ++ take taken bytes) [] mid → ((rest : List ℕ) → Ends ((mid ++ drop taken bytes) ++ rest) TooLong) → (rest : List ℕ) → Ends ((begun ++ bytes) ++ rest) TooLong
 long_on begun bytes mid taken c long rest =
     let behind = drop taken bytes ++ rest in
     let split : c.0 ++ ((mid ++ drop taken bytes) ++ rest) ≡ (begun ++ bytes) ++ rest =
-      ap (λ x. c.0 ++ x) (append_assoc mid (drop taken bytes) rest) ∙ sym (append_assoc c.0 mid behind) ∙ ap (λ x. x ++ behind) (sym c.2)
-      ∙ append_assoc begun (take taken bytes) behind ∙ ap (λ x. begun ++ x) (sym (append_assoc (take taken bytes) (drop taken bytes) rest) ∙ ap (λ x. x ++ rest) (take-append-drop taken bytes)) ∙ sym (append_assoc begun bytes rest)
+    ap (λ x. c.0 ++ x) (append_assoc mid (drop taken bytes) rest) ∙ sym (append_assoc c.0 mid behind) ∙ ap (λ x. x ++ behind) (sym c.2)
+    ∙ append_assoc begun (take taken bytes) behind ∙ ap (λ x. begun ++ x) (sym (append_assoc (take taken bytes) (drop taken bytes) rest) ∙ ap (λ x. x ++ rest) (take-append-drop taken bytes)) ∙ sym (append_assoc begun bytes rest)
     in
     subst (λ (x : List ℕ). Ends x TooLong) split (blank_ends c.0 ((mid ++ drop taken bytes) ++ rest) TooLong c.1 (long rest))
 

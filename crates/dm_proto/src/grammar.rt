@@ -6,7 +6,7 @@ ghost use Rattle.std.specs.Str.Parse.{digits_value};
 ghost use Rattle.dm_base.specs.Naming.{IsPath};
 ghost use Rattle.dm_proto.specs.Words.{words};
 ghost use Rattle.dm_proto.specs.Grammar.{IsNumber};
-ghost use Rattle.dm_proto.specs.Reading.{IsFound};
+ghost use Rattle.dm_proto.specs.Holding.{IsFound};
 
 use crate::words::{next_word, without_return};
 use dm_base::{Bytes, Command, NoMemory, Path, TextError};

@@ -10,8 +10,9 @@ mod words;
 
 pub use grammar::WRITE_LIMIT;
 pub use heard::{Heard, InputError};
-pub use laws::{
-    an_input_is_heard_in_one_way, every_input_is_heard, what_was_consumed_is_a_front,
-};
+pub use laws::{an_input_is_heard_in_one_way, every_input_is_heard, what_was_consumed_is_a_front};
 pub use reader::Reader;
 pub use step::LINE_LIMIT;
+
+#[cfg(test)]
+mod tests;

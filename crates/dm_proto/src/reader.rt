@@ -19,8 +19,8 @@ pub struct Reader {
 }
 
 impl Model for Reader {
-    ghost use Rattle.std.specs.Prelude.{◌≡◌, [], OnSome};
-    ghost use Rattle.dm_proto.specs.Reading.{Reading, IsReader, begun_of};
+    ghost use Rattle.dm_proto.specs.Reading.{Reading};
+    ghost use Rattle.dm_proto.specs.Holding.{IsReader, begun_of};
 
     ghost Value = { Reading };
 

@@ -3,7 +3,7 @@
 ghost use Rattle.std.specs.Prelude.{◌≡◌, ◌+◌, ◌<◌, ℕ, List, [], ◌∷◌, ◌++◌, length, position, IfOk, OnOk, IsErrOf, ◌==◌};
 ghost use Rattle.dm_proto.specs.Words.{IsLine, HasNoEnd};
 ghost use Rattle.dm_proto.specs.Stream.{Ends, TooLong};
-ghost use Rattle.dm_proto.specs.Reading.{IsFound, IsHeld, IsStep, IsEnded, begun_of};
+ghost use Rattle.dm_proto.specs.Holding.{IsFound, IsHeld, IsStep, IsEnded, begun_of};
 
 use crate::grammar::{Line, line_of};
 use crate::heard::{Heard, InputError};

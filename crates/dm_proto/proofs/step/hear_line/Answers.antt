@@ -1,7 +1,7 @@
 use Rattle.std.proofs.Common.{◌≡◌, ◌∙◌, sym, ap, subst, ℕ, List, ◌++◌, take}
 use Rattle.std.proofs.lemmas.Result.{err_from_is_err_and}
 use Rattle.dm_proto.specs.Words.{HasNoEnd}
-use Rattle.dm_proto.specs.Reading.{IsEnded}
+use Rattle.dm_proto.specs.Holding.{IsEnded}
 use Rattle.dm_proto.specs.declared.heard.InputError.TheVariants.{LongLine}
 use Rattle.dm_proto.proofs.Steps.{end_nowhere, end_some, long_all, long_part, step_line, err_same}
 use Rattle.dm_proto.proofs.step.hear_line.Goals as goal
@@ -37,7 +37,7 @@ returns-clause-heard c =
     let ready = c.end_line-payload.result.1 in
     let at = end_some c.args.bytes.now c.in-Some.end (sym c.in-Some.ensures) in
     let is : c.extend_line-2.new.line.items ≡ line ++ take c.in-Some.end c.args.bytes.now =
-      c.in_ok-extend_line-2.ensures.ok ∙ ap (λ (x : List ℕ). line ++ x) c.split_at.ensures.front
+    c.in_ok-extend_line-2.ensures.ok ∙ ap (λ (x : List ℕ). line ++ x) c.split_at.ensures.front
     in
     step_line line c.args.bytes.now new c.in-Some.end payload ready at
-      (subst (λ (x : List ℕ). IsEnded x new payload ready) is c.end_line-payload.ensures)
+    (subst (λ (x : List ℕ). IsEnded x new payload ready) is c.end_line-payload.ensures)

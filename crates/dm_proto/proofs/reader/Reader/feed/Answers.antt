@@ -15,12 +15,12 @@ returns-in_err-taken-clause-long c e =
     let bytes = c.args.bytes.now in
     let none : c.pieces.self.ready ≡ None = sym (ap (λ (r : Reading). r.ready) c.self.view_is) ∙ ready_none c.self.inside.ready c.is_none.result c.is_none.ensures c.pieces-test.true in
     let so_far : Consumes (begun ++ take c.pieces.taken bytes) [] c.pieces.self.begun =
-      subst (λ (o : Option Heard). Consumes (begun ++ take c.pieces.taken bytes) (option_to_list o) c.pieces.self.begun) none c.pieces.invariant.heard
+    subst (λ (o : Option Heard). Consumes (begun ++ take c.pieces.taken bytes) (option_to_list o) c.pieces.self.begun) none c.pieces.invariant.heard
     in
     let p = err_from_is_err_and c.from_residual.result c.from_residual.ensures.1 in
     let same = err_same ℕ c.from_residual.result p.0 c.in_err-taken.field-0.0 LongLine p.1 p.2 e in
     long_on begun bytes c.pieces.self.begun c.pieces.taken so_far
-      (subst (λ (x : List ℕ). (rest : List ℕ) → Ends ((c.pieces.self.begun ++ x) ++ rest) TooLong) c.split_at.ensures.back (c.in_err-taken.ensures.long same))
+    (subst (λ (x : List ℕ). (rest : List ℕ) → Ends ((c.pieces.self.begun ++ x) ++ rest) TooLong) c.split_at.ensures.back (c.in_err-taken.ensures.long same))
 
 pub pieces-preserved : goal.pieces-preserved
 pieces-preserved c =
@@ -29,12 +29,12 @@ pieces-preserved c =
     let more = c.in_ok-taken.field-0 in
     let none : c.pieces.self.ready ≡ None = sym (ap (λ (r : Reading). r.ready) c.self.view_is) ∙ ready_none c.self.inside.ready c.is_none.result c.is_none.ensures c.pieces-test.true in
     let so_far : Consumes (begun ++ take c.pieces.taken bytes) [] c.pieces.self.begun =
-      subst (λ (o : Option Heard). Consumes (begun ++ take c.pieces.taken bytes) (option_to_list o) c.pieces.self.begun) none c.pieces.invariant.heard
+    subst (λ (o : Option Heard). Consumes (begun ++ take c.pieces.taken bytes) (option_to_list o) c.pieces.self.begun) none c.pieces.invariant.heard
     in
     let left : length c.split_at.result.1.now ≡ length (drop c.pieces.taken bytes) = ap length c.split_at.ensures.back in
     record {
       bounded = omega (arith, c.in_ok-taken.ensures.fits, left, length-drop c.pieces.taken bytes);
       none = λ z. absurd (omega (arith, z, c.in_ok-taken.ensures.goes, left, length-drop c.pieces.taken bytes, c.if-taken-bytes.true));
       heard = step_on begun bytes c.pieces.self.begun c.step.new.self.begun c.pieces.taken more (option_to_list c.step.new.self.ready) so_far
-        (subst (λ (x : List ℕ). Consumes (c.pieces.self.begun ++ take more x) (option_to_list c.step.new.self.ready) c.step.new.self.begun) c.split_at.ensures.back c.in_ok-taken.ensures.heard);
+          (subst (λ (x : List ℕ). Consumes (c.pieces.self.begun ++ take more x) (option_to_list c.step.new.self.ready) c.step.new.self.begun) c.split_at.ensures.back c.in_ok-taken.ensures.heard);
     }

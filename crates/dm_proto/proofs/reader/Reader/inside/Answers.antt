@@ -10,4 +10,4 @@ returns-clause-ends c =
     let line = c.self.inside.line in
     let empty : c.is_empty.result ≡ eqb (length line.items) 0 = c.is_empty.ensures ∙ ap (λ (n : ℕ). eqb n 0) (omega (arith, line.ok.0)) in
     subst (λ (b : List ℕ). MatchBool (not c.is_empty.result) (Ends b Inside) (b ≡ [])) (ap (λ (r : Reading). r.begun) c.self.view_is)
-      (inside_is line.items c.self.inside.payload c.is_empty.result c.self.invariant.held empty)
+    (inside_is line.items c.self.inside.payload c.is_empty.result c.self.invariant.held empty)
