@@ -17,6 +17,10 @@ IsFound text line.Syntax = IsSyntax text
 IsFound text (line.Command command) = Says text [] command
 IsFound text (line.Write path size) = IsWrite text path size × (0 < size)
 
+-- what was found of these words holds of each line that has them
+abbrev pub IsFoundOf : List (List ℕ) → Line → Type 0
+IsFoundOf ws found = (text : List ℕ) → words text ≡ ws → IsFound text found
+
 -- the bytes of what is begun: those of the line and, behind its line feed, those of the payload
 abbrev pub begun_of : List ℕ → Option Payload → List ℕ
 begun_of line None = line

@@ -83,6 +83,10 @@ Ends input AtEnd = AreBlank input
 Ends input Inside = EndsInside input
 Ends input TooLong = EndsTooLong input
 
+-- whatever follows these bytes, the input ends in a line that is too long
+abbrev pub IsTooLong : List ℕ → Type 0
+IsTooLong bytes = (rest : List ℕ) → Ends (bytes ++ rest) TooLong
+
 -- the whole input: these are heard, in this order, and then it ends so
 abbrev pub Hears : List ℕ → List Heard → Ending → Type 0
 Hears input [] ending = Ends input ending

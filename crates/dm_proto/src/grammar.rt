@@ -1,12 +1,11 @@
 //! What a line says (docs/COMMANDS.md).
 
-ghost use Rattle.std.specs.Prelude.{◌≡◌, ◌≤◌, ℕ, List, [], ◌∷◌, IfOk, MatchOption, codes};
+ghost use Rattle.std.specs.Prelude.{◌≡◌, ◌≤◌, [], ◌∷◌, IfOk, MatchOption, codes};
 ghost use Rattle.std.specs.Option.{SomeIff};
 ghost use Rattle.std.specs.Str.Parse.{digits_value};
 ghost use Rattle.dm_base.specs.Naming.{IsPath};
-ghost use Rattle.dm_proto.specs.Words.{words};
 ghost use Rattle.dm_proto.specs.Grammar.{IsNumber};
-ghost use Rattle.dm_proto.specs.Holding.{IsFound};
+ghost use Rattle.dm_proto.specs.Holding.{IsFound, IsFoundOf};
 
 use crate::words::{next_word, without_return};
 use dm_base::{Bytes, Command, NoMemory, Path, TextError};
@@ -51,7 +50,7 @@ pub fn line_of(alloc: Global, line: &[u8]) -> Result<Line, NoMemory>
 }
 
 fn two_words(alloc: Global, first: &[u8], second: &[u8]) -> Result<Line, NoMemory>
-    ensures { IfOk result (λ found. (line : List ℕ) → words line ≡ first.now ∷ second.now ∷ [] → IsFound line found) }
+    ensures { IfOk result (IsFoundOf (first.now ∷ second.now ∷ [])) }
 {
     if first != b"read".as_slice() {
         return Ok(Line::Syntax);
@@ -63,7 +62,7 @@ fn two_words(alloc: Global, first: &[u8], second: &[u8]) -> Result<Line, NoMemor
 }
 
 fn three_words(alloc: Global, first: &[u8], second: &[u8], third: &[u8]) -> Result<Line, NoMemory>
-    ensures { IfOk result (λ found. (line : List ℕ) → words line ≡ first.now ∷ second.now ∷ third.now ∷ [] → IsFound line found) }
+    ensures { IfOk result (IsFoundOf (first.now ∷ second.now ∷ third.now ∷ [])) }
 {
     if first == b"write".as_slice() {
         return write_line(alloc, second, third);
@@ -79,7 +78,7 @@ fn three_words(alloc: Global, first: &[u8], second: &[u8], third: &[u8]) -> Resu
 
 // The line of a `write` with these words behind it.
 fn write_line(alloc: Global, path: &[u8], digits: &[u8]) -> Result<Line, NoMemory>
-    ensures { IfOk result (λ found. (line : List ℕ) → words line ≡ codes "write" ∷ path.now ∷ digits.now ∷ [] → IsFound line found) }
+    ensures { IfOk result (IsFoundOf (codes "write" ∷ path.now ∷ digits.now ∷ [])) }
 {
     let Some(size) = payload_size(digits) else {
         return Ok(Line::Syntax);
@@ -96,7 +95,8 @@ fn write_line(alloc: Global, path: &[u8], digits: &[u8]) -> Result<Line, NoMemor
 
 // The path of a text, where it is one.
 fn path_of(alloc: Global, text: &[u8]) -> Result<Option<Path>, NoMemory>
-    ensures { IfOk result (λ found. MatchOption found (IsPath text.now → ⊥) (λ path. (path ≡ text.now) × IsPath text.now)) }
+    ensures { IfOk result (λ found. MatchOption found (IsPath text.now → ⊥)
+        (λ path. (path ≡ text.now) × IsPath text.now)) }
 {
     match Path::of_bytes(alloc, text) {
         Ok(path) => Ok(Some(path)),
@@ -107,7 +107,8 @@ fn path_of(alloc: Global, text: &[u8]) -> Result<Option<Path>, NoMemory>
 
 // The number, where it is one and no more than a `write` may bring.
 fn payload_size(digits: &[u8]) -> Option<usize>
-    ensures { SomeIff result (IsNumber digits.now × (digits_value 10 digits.now ≤ WRITE_LIMIT)) (digits_value 10 digits.now) }
+    ensures { let number = digits_value 10 digits.now in
+        SomeIff result (IsNumber digits.now × (number ≤ WRITE_LIMIT)) number }
 {
     match number_of(digits) {
         Some(number) if number <= WRITE_LIMIT => Some(number as usize),

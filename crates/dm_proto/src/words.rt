@@ -17,7 +17,8 @@ pub fn without_return(line: &[u8]) -> &[u8]
 
 /// The first word of a text and what follows it.
 pub fn next_word(text: &[u8]) -> Option<(&[u8], &[u8])>
-    ensures { MatchOption result (parts text.now ≡ []) (λ found. parts text.now ≡ found.0.now ∷ parts found.1.now) }
+    ensures { MatchOption result (parts text.now ≡ [])
+        (λ found. parts text.now ≡ found.0.now ∷ parts found.1.now) }
 {
     let text = without_spaces(text);
     if text.is_empty() {
