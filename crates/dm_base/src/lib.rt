@@ -17,3 +17,6 @@ pub use identifier::{Bfid, GroupId};
 pub use memory::NoMemory;
 pub use naming::{PATH_LIMIT, Path, TextError};
 pub use reply::{FileState, Reply};
+
+#[cfg(test)]
+mod tests;
