@@ -1,10 +1,9 @@
 -- What a sink took in one write after another.
-use Rattle.std.proofs.Common.{◌≡◌, inl, inr, ℕ, ◌+◌, ◌<◌, ◌≤◌, List, [], ◌++◌, length, take, drop, Option, Some, None, Result, Ok, Err, OnErr, refl, ap, sym, subst, ◌∙◌, arith, append_assoc, length-append, length-drop}
-use Rattle.std.proofs.lemmas.List.{append-nil, take-append-drop}
+use Rattle.std.proofs.Common.{◌≡◌, inl, inr, ℕ, ◌+◌, ◌≤◌, List, [], ◌++◌, take, drop, Option, Some, None, Result, Ok, Err, OnErr, refl, ap, sym, subst, ◌∙◌, arith, append_assoc, length-append}
+use Rattle.std.proofs.lemmas.List.{append-nil}
 use Rattle.std.proofs.Math.Seq.{take-add}
 use Rattle.dm_host.specs.Count.{Rose}
 use Rattle.dm_host.specs.Stream.{Takes}
-use Rattle.dm_host.specs.declared.Failed.{Failed}
 use Rattle.dm_reply.specs.Took.{Took, TookPart}
 
 pub took_none : (before : Option (List ℕ)) → Took before before []
@@ -23,25 +22,11 @@ pub takes_front : (b c : Option (List ℕ)) (bytes : List ℕ) (n : ℕ) → Tak
 takes_front None c bytes n h = h
 takes_front (Some taken) c bytes n h = h
 
-pub takes_none : (b c : Option (List ℕ)) (bytes : List ℕ) (e : Failed) → Takes b c bytes (Err e) → Took b c []
-takes_none None c bytes e h = h
-takes_none (Some taken) c bytes e h = h ∙ ap (λ xs. Some xs) (sym (append-nil taken))
-
 -- the bytes sent so far, and the front of the rest that was taken
 pub sent_more : (a b c : Option (List ℕ)) (bytes : List ℕ) (sent n : ℕ) → Took a b (take sent bytes) → Takes b c (drop sent bytes) (Ok n) → Took a c (take (sent + n) bytes)
 sent_more a b c bytes sent n h k =
     let P : List ℕ → Type 0 = λ xs. Took a c xs in
     subst P (sym (take-add sent n bytes)) (took_more a b c (take sent bytes) (take n (drop sent bytes)) h (takes_front b c (drop sent bytes) n k))
-
--- no more was taken
-pub sent_part : (a b c : Option (List ℕ)) (bytes : List ℕ) (sent : ℕ) → sent < length bytes → Took a b (take sent bytes) → Took b c [] → TookPart a c bytes
-sent_part a b c bytes sent l h k = record {
-  part = take sent bytes ++ [];
-  more = drop sent bytes;
-  split = sym (ap (λ xs. xs ++ drop sent bytes) (append-nil (take sent bytes)) ∙ take-append-drop sent bytes);
-  some = omega (arith, length-drop sent bytes);
-  took = took_more a b c (take sent bytes) [] h k;
-}
 
 -- a part of what begins a text is a part of the text
 pub part_of_front : (a b : Option (List ℕ)) (text rest : List ℕ) → TookPart a b text → TookPart a b (text ++ rest)
