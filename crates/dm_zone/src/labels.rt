@@ -3,6 +3,7 @@
 ghost use Rattle.std.specs.Prelude.{◌≡◌, ◌≤◌, ◌+◌, ◌++◌, drop, length, take};
 ghost use Rattle.dm_zone.specs.Label.{label as label_of};
 
+use crate::number::eight_bytes;
 use dm_base::GroupId;
 
 /// The bytes of a volume's label, which begins the volume.
@@ -13,8 +14,8 @@ pub fn label(vsn: &[u8; 6], group: GroupId, epoch: u64, size: u64) -> [u8; 64]
     put(&mut label, 0, b"DMVOLIM1");
     put(&mut label, 8, vsn);
     put(&mut label, 14, &[group.0, 1]);
-    put(&mut label, 16, &epoch.to_be_bytes());
-    put(&mut label, 24, &size.to_be_bytes());
+    put(&mut label, 16, &eight_bytes(epoch));
+    put(&mut label, 24, &eight_bytes(size));
     label
 }
 

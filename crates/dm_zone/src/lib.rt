@@ -2,6 +2,7 @@
 #![tactic(auto)]
 
 mod labels;
+mod number;
 mod rooms;
 mod zone;
 

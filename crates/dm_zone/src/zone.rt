@@ -4,6 +4,7 @@ ghost use Rattle.std.specs.Prelude.{◌≡◌, ◌<◌, ◌≤◌, ◌+◌, ◌^
 ghost use Rattle.std.specs.List.{flat_map};
 ghost use Rattle.dm_zone.specs.Zone.{Chunk, chunk_count, chunk_front, chunk_text, cut, cut_into, zone, zone_front, zone_length};
 
+use crate::number::{eight_bytes, four_bytes, sixteen_bytes};
 use dm_base::{Bfid, NoMemory};
 use std::alloc::Global;
 
@@ -48,9 +49,9 @@ fn put_front(out: &mut Vec<u8>, epoch: u64, count: u32, whole: u64) -> Result<()
     ensures { OnOk result (out.new.items ≡ out.old.items ++ zone_front epoch count whole) }
 {
     out.extend_from_slice(b"ZONE")?;
-    out.extend_from_slice(&count.to_be_bytes())?;
-    out.extend_from_slice(&epoch.to_be_bytes())?;
-    out.extend_from_slice(&whole.to_be_bytes())?;
+    out.extend_from_slice(&four_bytes(count))?;
+    out.extend_from_slice(&eight_bytes(epoch))?;
+    out.extend_from_slice(&eight_bytes(whole))?;
     out.extend_from_slice(&[0; 8])?;
     Ok(())
 }
@@ -108,9 +109,9 @@ fn put_chunk_front(
     ensures { OnOk result (out.new.items ≡ out.old.items ++ chunk_front bfid.0 offset count total) }
 {
     out.extend_from_slice(b"CHNK\0\0\0\0")?;
-    out.extend_from_slice(&bfid.0.to_be_bytes())?;
-    out.extend_from_slice(&offset.to_be_bytes())?;
-    out.extend_from_slice(&count.to_be_bytes())?;
-    out.extend_from_slice(&total.to_be_bytes())?;
+    out.extend_from_slice(&sixteen_bytes(bfid.0))?;
+    out.extend_from_slice(&eight_bytes(offset))?;
+    out.extend_from_slice(&eight_bytes(count))?;
+    out.extend_from_slice(&eight_bytes(total))?;
     Ok(())
 }

@@ -10,4 +10,4 @@ returns c =
     let d = c.in_ok-extend_from_slice-3.ensures.items in
     let e = c.in_ok-extend_from_slice-4.ensures.items in
     let f = c.in_ok-extend_from_slice-5.ensures.items in
-    rw (f, e, d, b, a, c.to_be_bytes.ensures, c.to_be_bytes-2.ensures, c.to_be_bytes-3.ensures, c.to_be_bytes-4.ensures) (simp append_assoc)
+    rw (f, e, d, b, a, c.sixteen_bytes.ensures, c.eight_bytes.ensures, c.eight_bytes-2.ensures, c.eight_bytes-3.ensures) (simp append_assoc)
