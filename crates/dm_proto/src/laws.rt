@@ -10,7 +10,8 @@ pub fn every_input_is_heard()
     ensures { (input : List ℕ) → (items : List Heard) × (ending : Ending) × Hears input items ending }
 {}
 
-/// No input is heard in two ways, so the pieces in which it comes make no difference.
+/// No input is heard in two ways. What `feed` ensures is of the bytes alone, so the pieces in which
+/// they come make no difference.
 pub fn an_input_is_heard_in_one_way()
     ensures { (input : List ℕ) (first second : List Heard) (ending last : Ending) →
         Hears input first ending → Hears input second last → (first ≡ second) × (ending ≡ last) }

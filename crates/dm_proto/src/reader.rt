@@ -45,8 +45,9 @@ impl Reader {
         }
     }
 
-    /// Takes a piece of the input, or its front up to the end of the first command that ends in it:
-    /// that one is ready then. An error ends the input: what a reader holds behind it is left open.
+    /// Takes a piece of the input, or its front up to the end of the first command or syntax line
+    /// that ends in it, which is ready then. An error ends the input: what the reader holds behind
+    /// it is left open.
     pub fn feed(&mut self, alloc: Global, bytes: &[u8]) -> Result<usize, InputError>
         requires { self.old.ready ≡ None }
 
