@@ -1,0 +1,9 @@
+pub mod Files
+pub mod State
+pub mod Zones
+pub mod Rules
+pub mod Session
+pub mod Talk
+pub mod Status
+pub mod Script
+pub mod Listening
