@@ -80,6 +80,20 @@ impl Archive {
         })
     }
 
+    /// No file, and numbers that are given next.
+    #[cfg(test)]
+    pub(crate) fn numbered(alloc: Global, last_change: u64, next_counter: u64) -> Archive
+        requires change { last_change ≤ 9223372036854775807 }
+        requires counter { next_counter ≤ 9223372036854775808 }
+    {
+        Archive {
+            files: BTreeMap::new(alloc),
+            last_change,
+            next_counter,
+            tip: LABEL_END,
+        }
+    }
+
     /// Does what was heard, and answers it.
     pub(crate) fn answer<B: Bay>(&mut self, alloc: Global, bay: &mut B, heard: Heard) -> Reply
         ensures step { (faults : ℕ) × Step (state_of self.old) heard faults result (state_of self.new) × Counts faults (B.count bay.old) (B.count bay.new) }

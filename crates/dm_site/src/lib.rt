@@ -11,3 +11,6 @@ mod session;
 mod status;
 
 pub use script::run_script;
+
+#[cfg(test)]
+mod tests;

@@ -4,7 +4,7 @@
 //! where they are missing, and each file is kept open from its first call on. A folder is synced after a
 //! file is made in it, so that the file's name is on the disk before the call that made it returns.
 
-ghost use Rattle.std.specs.Prelude.{◌+◌, ◌≤◌, ◌^◌, length, IfOk, OnOk};
+ghost use Rattle.std.specs.Prelude.{◌≡◌, ◌+◌, ◌≤◌, ◌^◌, length, IfOk, OnOk};
 ghost use Rattle.std.proofs.lemmas.Bool.{false≢true};
 ghost use Rattle.dm_host.specs.Count.{Rose};
 ghost use Rattle.dmfd.specs.Untold.{untold};
@@ -30,7 +30,9 @@ pub struct FileBay<'a, R> {
 
 impl<'a, R: Files<File = File>> FileBay<'a, R> {
     /// The device whose files are in this folder. Nothing is opened or made yet.
-    pub fn new(alloc: Global, system: &'a R, folder: String) -> FileBay<'a, R> {
+    pub fn new(alloc: Global, system: &'a R, folder: String) -> FileBay<'a, R>
+        ensures { result.count ≡ 0 }
+    {
         let files = OpenFiles {
             alloc,
             system,

@@ -1,6 +1,6 @@
 //! The standard streams as the source and the sink of a session.
 
-ghost use Rattle.std.specs.Prelude.{None};
+ghost use Rattle.std.specs.Prelude.{◌≡◌, None};
 
 use dm_host::{Failed, Sink, Source};
 use std::io::{Read, Write};
@@ -13,7 +13,9 @@ pub struct StreamSource<R> {
 }
 
 impl<R: Read + Drop> StreamSource<R> {
-    pub fn new(stream: R) -> StreamSource<R> {
+    pub fn new(stream: R) -> StreamSource<R>
+        ensures { result.count ≡ 0 }
+    {
         StreamSource { stream, count: 0 }
     }
 }
@@ -46,7 +48,9 @@ pub struct StreamSink<W> {
 }
 
 impl<W: Write + Drop> StreamSink<W> {
-    pub fn new(stream: W) -> StreamSink<W> {
+    pub fn new(stream: W) -> StreamSink<W>
+        ensures { result.count ≡ 0 }
+    {
         StreamSink { stream, count: 0 }
     }
 }
