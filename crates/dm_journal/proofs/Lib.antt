@@ -1,0 +1,5 @@
+mod Frames
+mod Tearing
+mod Appending
+mod Outcome
+mod Healing
