@@ -3,3 +3,6 @@ mod Tearing
 mod Appending
 mod Outcome
 mod Healing
+mod Opening
+mod Measuring
+mod Lending

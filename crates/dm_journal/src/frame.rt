@@ -5,6 +5,9 @@ ghost use Rattle.dm_journal.specs.Grammar.{Fits, inner};
 
 use byteorder::{BigEndian, ByteOrder};
 
+// A gate that is open. Any other byte is a closed one.
+pub const OPEN: u8 = 1;
+
 // The capacity of a journal's buffer: a length, the longest payload and a gate fit in it.
 pub const CAPACITY: usize = 16_778_240;
 

@@ -6,11 +6,9 @@ ghost use Rattle.dm_host.specs.Works.{Works, File, Follows};
 ghost use Rattle.dm_journal.specs.Grammar.{Fits, longest, inner, BeforeOrAfter};
 ghost use Rattle.dm_journal.specs.State.{At, Keeps, Doubts, settled_at, doubtful_at, with_landed, place_behind};
 
-use crate::frame::put_frame;
+use crate::frame::{OPEN, put_frame};
 use dm_host::{Bay, Failed, read_synced, write_synced};
 use std::marker::Model;
-
-const OPEN: u8 = 1;
 
 // The greatest place of a gate.
 const LAST_PLACE: u64 = 1 << 62;
@@ -140,5 +138,20 @@ impl Journal {
         self.place = behind(landed, self.place, n);
         self.doubt = None;
         Ok(landed)
+    }
+}
+
+// A journal whose gate stands at this place. The buffer has room for the longest frame.
+pub(crate) fn journal_at(file: u32, place: u64, buffer: Vec<u8>) -> Journal
+    requires file { file < 256 }
+    requires place { place ≤ 2 ^ 62 }
+    requires room { 16778240 ≤ vec_capacity buffer }
+    ensures { result ≡ settled_at file place }
+{
+    Journal {
+        file,
+        place,
+        doubt: None,
+        buffer,
     }
 }

@@ -6,10 +6,15 @@
 //! has no meaning. An append writes the frame with the next gate closed, syncs, opens the gate before it, and syncs.
 #![tactic(auto)]
 
+mod error;
 mod frame;
 mod journal;
+mod loading;
+mod reading;
 
+pub use error::LoadError;
 pub use journal::Journal;
+pub use loading::Loading;
 
 /// The greatest length of a payload.
 pub const MAX_PAYLOAD: u64 = 16_778_234;
