@@ -2,7 +2,9 @@ mod Frames
 mod Tearing
 mod Appending
 mod Outcome
-mod Healing
+pub mod Healing
 mod Opening
 mod Measuring
-mod Lending
+pub mod Lending
+pub mod Apart
+pub mod Unique

@@ -36,7 +36,7 @@ header_says : (file : List ℕ) (p : ℕ) (h : List ℕ) (n : ℕ) → h ≡ par
 header_says file p h n read is_open back =
     sym read ∙ five h (ap (λ (l : List ℕ). length l) read ∙ length-part file p 5) ∙ (λ i. is_open i ∷ sym back i)
 
-same_number : (m n : ℕ) → m < 2 ^ 32 → n < 2 ^ 32 → to_be_bytes w32 m ≡ to_be_bytes w32 n → m ≡ n
+pub same_number : (m n : ℕ) → m < 2 ^ 32 → n < 2 ^ 32 → to_be_bytes w32 m ≡ to_be_bytes w32 n → m ≡ n
 same_number m n small small' is =
     sym (from_be_bytes-to_be_bytes_4 m small) ∙ ap (λ (l : List ℕ). from_be_bytes w32 l) is ∙ from_be_bytes-to_be_bytes_4 n small'
 

@@ -18,3 +18,6 @@ pub use loading::Loading;
 
 /// The greatest length of a payload.
 pub const MAX_PAYLOAD: u64 = 16_778_234;
+
+#[cfg(test)]
+mod tests;
