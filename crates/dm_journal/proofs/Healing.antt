@@ -1,5 +1,5 @@
 -- Finding out what became of an append: d0 before the sync and the read of the gate, d1 after.
-use Rattle.std.proofs.Common.{◌≡◌, ◌≢◌, ℕ, ◌+◌, ◌≤◌, ◌^◌, List, [], ◌∷◌, ◌++◌, length, get_or, Bool, true, rules, refl, sym, ◌∙◌, ap, subst, arith, length-append}
+use Rattle.std.proofs.Common.{◌≡◌, ℕ, ◌+◌, ◌≤◌, ◌^◌, List, [], ◌∷◌, ◌++◌, length, get_or, Bool, true, rules, refl, sym, ◌∙◌, ap, subst, arith, length-append}
 use Rattle.std.proofs.lemmas.List.{get_or_at}
 use Rattle.dm_host.specs.Disk.{Disk, Only, Same}
 use Rattle.dm_host.specs.Works.{Works, File, Follows}
@@ -70,16 +70,3 @@ module _ (f p n : ℕ) (ps : List (List ℕ)) (payload : List ℕ) (d0 d1 : Disk
     pub landed_at : (landed : Bool) → landed ≡ true → get_or (d0.seen f) p 0 ≡ 1 → Keeps d1 (settled_at f (place_behind landed p n)) (with_landed landed ps payload)
     landed_at landed is is_open =
         subst (λ (b : Bool). Keeps d1 (settled_at f (place_behind b p n)) (with_landed b ps payload)) (sym is) (landed_keeps is_open)
-
-    pub lost_keeps : get_or (d0.seen f) p 0 ≢ 1 → Keeps d1 (settled_at f p) ps
-    lost_keeps shut =
-        let rest : AtRest ps (d1.seen f) = subst (λ (l : List ℕ). AtRest ps l) (sym same)
-        (record { gate = k.seen.gate; junk = k.seen.rest; closed = λ e. shut (gate_read ∙ e); is = k.seen.is }) in
-        record {
-          told = still_told (File f) d0 d1 _ w k.told;
-          settled = refl;
-          place = k.place;
-          fits = k.fits;
-          seen = rest;
-          left = λ c left. subst (λ (l : List ℕ). AtRest ps l) (sym (only c left)) rest;
-        }

@@ -1,23 +1,9 @@
 -- A file that is made ready to be read: d0 before, d1 after its sync, d2 after a gate was written into an empty one.
-use Rattle.std.proofs.Common.{◌≡◌, inl, inr, ℕ, ◌<◌, ◌≤◌, List, [], ◌∷◌, length, IsTrue, refl, sym, ◌∙◌, subst, arith}
-use Rattle.std.proofs.lemmas.List.{take_all}
-use Rattle.dm_host.specs.Disk.{Disk, Only, Same, Torn, Written}
+use Rattle.std.proofs.Common.{◌≡◌, inl, inr, ℕ, ◌<◌, ◌≤◌, List, [], ◌∷◌, length, IsTrue, refl, sym, subst, arith}
+use Rattle.dm_host.specs.Disk.{Disk, Only, Same, Torn}
 use Rattle.dm_host.specs.Works.{Works, File, Follows}
 use Rattle.dm_host.proofs.Moments.{weaker, and_then, fewer_after}
-use Rattle.dm_journal.specs.Load.{Reading, Reopens, opened, loading_at}
-
-pub opened_long : (file : List ℕ) → 1 < length file → opened file ≡ file
-opened_long [] long = absurd (omega arith)
-opened_long (a ∷ []) long = absurd (omega arith)
-opened_long (a ∷ b ∷ rest) long = refl
-
-pub opened_short : (file : List ℕ) → length file ≤ 1 → opened file ≡ 0 ∷ []
-opened_short [] short = refl
-opened_short (a ∷ []) short = refl
-opened_short (a ∷ b ∷ rest) short = absurd (omega arith)
-
-pub gate_written_first : (old new : List ℕ) → length old ≤ 1 → Written 0 (0 ∷ []) old new → new ≡ 0 ∷ []
-gate_written_first old new short written = sym (take_all 1 new (omega (arith, written.torn.no_longer))) ∙ written.there
+use Rattle.dm_journal.specs.Load.{Reading, Reopens, loading_at}
 
 pub record Front (file : List ℕ) : Type 0 where
   pub gate : ℕ

@@ -29,9 +29,6 @@ pends_either ps payload file all fits pends = elim (cases_eq pends.gate 1) [
   | inr shut ↦ inl (all, inr (record { gate = pends.gate; junk = pends.rest; closed = shut; is = pends.is }))
 ]
 
-pub rest_pends : (ps : List (List ℕ)) (payload file : List ℕ) → AtRest ps file → Pends ps payload file
-rest_pends ps payload file rest = record { gate = rest.gate; rest = rest.junk; is = rest.is; whole = λ e. absurd (rest.closed e) }
-
 module _ (ps : List (List ℕ)) (payload : List ℕ) (p : ℕ) (at : p ≡ length (frames ps)) where
   pub rest_reaches : (file : List ℕ) → AtRest ps file → p + 1 ≤ length file
   rest_reaches file rest = omega (arith, at, ap (λ (l : List ℕ). length l) rest.is, length-append (frames ps) (rest.gate ∷ rest.junk))

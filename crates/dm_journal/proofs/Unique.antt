@@ -1,8 +1,12 @@
--- A file stands for one list of payloads.
-use Rattle.std.proofs.Common.{◌≡◌, inl, inr, ℕ, ◌≤◌, List, [], ◌∷◌, ◌++◌, length, take, drop, refl, sym, ◌∙◌, ap, arith, length-append}
-use Rattle.std.proofs.lemmas.List.{append_assoc, take_at, drop_at}
+-- A file stands for one list of payloads, or is damaged.
+use Rattle.std.proofs.Common.{◌≡◌, inl, inr, ℕ, ◌≤◌, List, Option, Some, None, [], ◌∷◌, ◌++◌, length, take, drop, refl, sym, ◌∙◌, ap, arith, length-append}
+use Rattle.std.proofs.lemmas.List.{append_assoc, append_cancel_left, take_at, drop_at}
+use Rattle.std.specs.Borrow.{Bor}
 use Rattle.std.specs.List.{AllByRecursion}
+use Rattle.dm_host.specs.Disk.{Disk}
 use Rattle.dm_journal.specs.Grammar.{Fits, inner, frame, frames, AtRest, StandsFor}
+use Rattle.dm_journal.specs.Load.{LoadAt, IsDamage, Finds}
+use Rattle.dm_journal.proofs.Frames.{frames_push}
 use Rattle.dm_journal.proofs.Measuring.{same_number}
 
 -- equal files begin with equal payloads, if both begin with a frame
@@ -38,3 +42,21 @@ one_meaning ps qs file (fp, inl short) (fq, inl short') = short.1 ∙ sym short'
 one_meaning ps qs file (fp, inl short) (fq, inr s) = short.1 ∙ sym (short_rest qs file s short.0)
 one_meaning ps qs file (fp, inr r) (fq, inl short) = short_rest ps file r short.0 ∙ sym short.1
 one_meaning ps qs file (fp, inr r) (fq, inr s) = rests_once ps qs file fp fq r s
+
+-- what is at rest isn't damaged
+rest_whole : (ps : List (List ℕ)) (file : List ℕ) → AtRest ps file → IsDamage ps file → ⊥
+rest_whole ps file r damage =
+    let heads : r.gate ∷ r.junk ≡ 1 ∷ damage.rest = append_cancel_left (frames ps) (r.gate ∷ r.junk) (1 ∷ damage.rest) (sym r.is ∙ damage.is) in
+    r.closed (cc (heads))
+
+-- nor is what has one frame more
+frame_whole : (ps : List (List ℕ)) (payload : List ℕ) (gate : ℕ) (rest file : List ℕ) → Fits payload → file ≡ frames (ps ++ payload ∷ []) ++ gate ∷ rest → IsDamage ps file → ⊥
+frame_whole ps payload gate rest file fits is damage =
+    let tails : 1 ∷ damage.rest ≡ 1 ∷ (inner payload ++ gate ∷ rest) =
+    append_cancel_left (frames ps) (1 ∷ damage.rest) (1 ∷ (inner payload ++ gate ∷ rest)) (sym damage.is ∙ is ∙ sym (frames_push ps payload (gate ∷ rest))) in
+    damage.none payload gate rest fits (ap (λ (l : List ℕ). drop 1 l) tails)
+
+-- where a load goes on or ends there is no damage
+pub found_whole : (d : Disk) (j : LoadAt) (ps : List (List ℕ)) (found : Option (Bor (List ℕ))) → Finds d j ps found → IsDamage ps (d.seen j.file) → ⊥
+found_whole d j ps None k damage = rest_whole ps (d.seen j.file) k.seen damage
+found_whole d j ps (Some payload) k damage = frame_whole ps payload.now k.1.gate k.1.rest (d.seen j.file) k.0 k.1.is damage

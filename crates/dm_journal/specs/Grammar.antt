@@ -8,6 +8,10 @@ use Rattle.std.specs.List.{AllByRecursion}
 abbrev pub longest : ℕ
 longest = 16778234
 
+-- what a journal's buffer has room for: the longest payload, its length and a gate
+abbrev pub buffer_room : ℕ
+buffer_room = 16778240
+
 -- a payload that a journal takes
 abbrev pub Fits : List ℕ → Type 0
 Fits payload = length payload ≤ longest

@@ -1,7 +1,7 @@
 //! The bytes between two gates.
 ghost use Rattle.std.specs.Prelude.{◌≡◌, ◌≤◌, [], ◌∷◌, ◌++◌, length, vec_capacity};
 ghost use Rattle.std.specs.Int.{w32, to_be_bytes};
-ghost use Rattle.dm_journal.specs.Grammar.{Fits, inner};
+ghost use Rattle.dm_journal.specs.Grammar.{Fits, buffer_room, inner};
 
 use byteorder::{BigEndian, ByteOrder};
 
@@ -21,10 +21,10 @@ fn four_bytes(n: u32) -> [u8; 4]
 
 // Makes the buffer hold the length, the payload and the next gate, closed.
 pub fn put_frame(buffer: &mut Vec<u8>, payload: &[u8])
-    requires room { 16778240 ≤ vec_capacity buffer.old }
+    requires room { buffer_room ≤ vec_capacity buffer.old }
     requires size { Fits payload.now }
     ensures bytes { buffer.new.items ≡ inner payload.now ++ 0 ∷ [] }
-    ensures room { 16778240 ≤ vec_capacity buffer.new }
+    ensures room { buffer_room ≤ vec_capacity buffer.new }
 {
     let len = four_bytes(payload.len() as u32);
     buffer.clear();

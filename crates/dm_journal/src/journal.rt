@@ -3,7 +3,7 @@ ghost use Rattle.std.specs.Prelude.{◌≡◌, ◌↔◌, ◌+◌, ◌<◌, ◌�
 ghost use Rattle.dm_host.specs.Count.{HasCause};
 ghost use Rattle.dm_host.specs.Disk.{Same};
 ghost use Rattle.dm_host.specs.Works.{Works, File, Follows};
-ghost use Rattle.dm_journal.specs.Grammar.{Fits, longest, inner, BeforeOrAfter};
+ghost use Rattle.dm_journal.specs.Grammar.{Fits, longest, buffer_room, inner, BeforeOrAfter};
 ghost use Rattle.dm_journal.specs.State.{At, Keeps, Doubts, settled_at, doubtful_at, with_landed, place_behind};
 
 use crate::frame::{OPEN, put_frame};
@@ -25,14 +25,14 @@ pub struct Journal {
 impl Model for Journal {
     ghost use Rattle.std.specs.Prelude.{◌<◌, ◌≤◌, ◌^◌, vec_capacity};
     ghost use Rattle.std.specs.Option.{ForSome};
-    ghost use Rattle.dm_journal.specs.Grammar.{longest};
+    ghost use Rattle.dm_journal.specs.Grammar.{longest, buffer_room};
     ghost use Rattle.dm_journal.specs.State.{At};
 
     ghost Value = { At };
 
     ghost view = { λ j. record { file = j.file; place = j.place; doubt = j.doubt } };
 
-    ghost invariant = { λ j. (j.file < 256) × (j.place ≤ 2 ^ 62) × (16778240 ≤ vec_capacity j.buffer) × ForSome j.doubt (λ n. n ≤ longest) };
+    ghost invariant = { λ j. (j.file < 256) × (j.place ≤ 2 ^ 62) × (buffer_room ≤ vec_capacity j.buffer) × ForSome j.doubt (λ n. n ≤ longest) };
 }
 
 // Writes the bytes behind the gate, and opens it.
@@ -145,7 +145,7 @@ impl Journal {
 pub(crate) fn journal_at(file: u32, place: u64, buffer: Vec<u8>) -> Journal
     requires file { file < 256 }
     requires place { place ≤ 2 ^ 62 }
-    requires room { 16778240 ≤ vec_capacity buffer }
+    requires room { buffer_room ≤ vec_capacity buffer }
     ensures { result ≡ settled_at file place }
 {
     Journal {

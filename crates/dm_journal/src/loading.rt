@@ -1,5 +1,5 @@
 //! The payloads of a file, one at a time.
-ghost use Rattle.std.specs.Prelude.{◌≡◌, ◌+◌, ◌<◌, ◌≤◌, ◌^◌, ℕ, List, [], vec_capacity, IsTrue, IfOk, OnOk, IsErrOf, ⊤};
+ghost use Rattle.std.specs.Prelude.{◌≡◌, ◌+◌, ◌<◌, ◌≤◌, ◌^◌, ℕ, List, [], vec_capacity, IsTrue, IfOk, OnOk, IsErr, IsErrOf, ⊤};
 ghost use Rattle.dm_host.specs.Disk.{Same};
 ghost use Rattle.dm_host.specs.Works.{Works, File, Follows};
 ghost use Rattle.dm_journal.specs.declared.error.LoadError.TheVariants.{Damaged, NoMemory};
@@ -26,13 +26,14 @@ pub struct Loading {
 
 impl Model for Loading {
     ghost use Rattle.std.specs.Prelude.{◌<◌, ◌≤◌, ◌^◌, vec_capacity};
+    ghost use Rattle.dm_journal.specs.Grammar.{buffer_room};
     ghost use Rattle.dm_journal.specs.Load.{LoadAt};
 
     ghost Value = { LoadAt };
 
     ghost view = { λ j. record { file = j.file; place = j.place; last = j.last; end = j.end } };
 
-    ghost invariant = { λ j. (j.file < 256) × (j.place < j.end) × (j.end ≤ 2 ^ 62) × (16778240 ≤ vec_capacity j.buffer) };
+    ghost invariant = { λ j. (j.file < 256) × (j.place < j.end) × (j.end ≤ 2 ^ 62) × (buffer_room ≤ vec_capacity j.buffer) };
 }
 
 impl Loading {
@@ -68,6 +69,7 @@ impl Loading {
         ensures found { (ps : List (List ℕ)) → Reading (B.disk bay.old) self.old ps → IfOk result (λ found. Finds (B.disk bay.new) self.old ps found) }
         ensures damaged { (ps : List (List ℕ)) → Reading (B.disk bay.old) self.old ps
             → (f p : ℕ) → IsErrOf result (Damaged f p) → IsDamage ps ((B.disk bay.old).seen self.old.file) }
+        ensures whole { (ps : List (List ℕ)) → Reading (B.disk bay.old) self.old ps → IsDamage ps ((B.disk bay.old).seen self.old.file) → IsErr result }
         ensures place { (f p : ℕ) → IsErrOf result (Damaged f p) → (f ≡ self.old.file) × (p ≡ self.old.place) }
         ensures memory { IsErrOf result NoMemory → ⊥ }
         ensures same { (B.disk bay.new).seen self.old.file ≡ (B.disk bay.old).seen self.old.file }

@@ -5,7 +5,7 @@ ghost use Rattle.dm_host.specs.Count.{HasCause};
 ghost use Rattle.dm_host.specs.Disk.{Only, Same, part};
 ghost use Rattle.dm_host.specs.Works.{Works, File, Follows};
 ghost use Rattle.dm_journal.specs.declared.error.LoadError.TheVariants.{Damaged, NoMemory};
-ghost use Rattle.dm_journal.specs.Grammar.{longest};
+ghost use Rattle.dm_journal.specs.Grammar.{longest, buffer_room};
 ghost use Rattle.dm_journal.specs.Load.{Reading, Reopens, opened, loading_at, IsDamage, Measures, Advances, HasLoadCause};
 
 use crate::frame::OPEN;
@@ -124,7 +124,7 @@ pub fn advance<B: Bay>(
     requires file { file < 256 }
     requires within { place < end }
     requires limit { end ≤ 2 ^ 62 }
-    requires room { 16778240 ≤ vec_capacity buffer.old }
+    requires room { buffer_room ≤ vec_capacity buffer.old }
     ensures found { (ps : List (List ℕ)) → Reading (B.disk bay.old) (loading_at file place 0 end) ps
         → IfOk result (λ found. Advances (B.disk bay.new) (loading_at file place 0 end) ps buffer.new.items found) }
     ensures damaged { (ps : List (List ℕ)) → Reading (B.disk bay.old) (loading_at file place 0 end) ps
@@ -133,7 +133,7 @@ pub fn advance<B: Bay>(
     ensures memory { IsErrOf result NoMemory → ⊥ }
     ensures range { IfOk result (λ found. IfSome found (λ n. place + (n + 6) ≤ end)) }
     ensures len { IfOk result (λ found. IfSome found (λ n. n ≡ vec_len buffer.new)) }
-    ensures room { 16778240 ≤ vec_capacity buffer.new }
+    ensures room { buffer_room ≤ vec_capacity buffer.new }
     ensures same { (B.disk bay.new).seen file ≡ (B.disk bay.old).seen file }
     ensures works { Works (File file) (B.disk bay.old) (B.disk bay.new) (Follows Same file (B.disk bay.old)) }
     ensures cause { HasLoadCause (B.count bay.old) (B.count bay.new) result }
