@@ -1,0 +1,4 @@
+pub mod Grammar
+pub mod State
+pub mod Load
+pub mod Pair
