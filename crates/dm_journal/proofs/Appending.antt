@@ -1,4 +1,4 @@
--- An append on the disk: d0 before it, d1 after the first write and sync, d2 after the second.
+-- An append on the disk, in the disks before it, after the first write and sync, and after the second.
 use Rattle.std.proofs.Common.{◌≡◌, inl, ℕ, ◌+◌, List, [], ◌∷◌, ◌++◌, length, Bool, IsTrue, refl, sym, ◌∙◌, ap, subst, arith}
 use Rattle.std.specs.Prelude.{⊤}
 use Rattle.dm_host.specs.Disk.{Disk, Image, Only, Same, Torn, Written}

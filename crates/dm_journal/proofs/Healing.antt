@@ -1,4 +1,4 @@
--- Finding out what became of an append: d0 before the sync and the read of the gate, d1 after.
+-- Finding out what became of an append, in the disks before the sync and the read of the gate, and after.
 use Rattle.std.proofs.Common.{◌≡◌, ℕ, ◌+◌, ◌≤◌, ◌^◌, List, [], ◌∷◌, ◌++◌, length, get_or, Bool, true, rules, refl, sym, ◌∙◌, ap, subst, arith, length-append}
 use Rattle.std.proofs.lemmas.List.{get_or_at}
 use Rattle.dm_host.specs.Disk.{Disk, Only, Same}

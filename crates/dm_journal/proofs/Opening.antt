@@ -1,4 +1,4 @@
--- A file that is made ready to be read: d0 before, d1 after its sync, d2 after a gate was written into an empty one.
+-- A file that is made ready to be read, in the disks before, after its sync, and after a gate was written into an empty one.
 use Rattle.std.proofs.Common.{◌≡◌, inl, inr, ℕ, ◌<◌, ◌≤◌, List, [], ◌∷◌, length, IsTrue, refl, sym, subst, arith}
 use Rattle.dm_host.specs.Disk.{Disk, Only, Same, Torn}
 use Rattle.dm_host.specs.Works.{Works, File, Follows}
