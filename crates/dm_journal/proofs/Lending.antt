@@ -1,11 +1,13 @@
 -- A payload that is lent out of the buffer it was read into.
-use Rattle.std.proofs.Common.{◌≡◌, ℕ, List, [], ◌∷◌, ◌++◌, length, Option, Some, None, Result, Ok, sym, ◌∙◌, ap, subst}
+use Rattle.std.proofs.Common.{◌≡◌, ℕ, List, [], ◌∷◌, ◌++◌, length, Option, Some, None, Result, Ok, Err, sym, ◌∙◌, ap, subst}
 use Rattle.std.specs.Borrow.{Bor}
+use Rattle.std.specs.List.{AllByRecursion}
 use Rattle.dm_host.specs.Disk.{Disk}
 use Rattle.dm_journal.specs.declared.error.LoadError.{LoadError}
-use Rattle.dm_journal.specs.Grammar.{Fits}
+use Rattle.dm_journal.specs.Grammar.{Fits, AtRest}
 use Rattle.dm_journal.specs.Load.{LoadAt, Reading, Advances, Finds, Gives, moved, loading_at}
-use Rattle.dm_journal.specs.State.{Keeps, settled_at}
+use Rattle.dm_journal.specs.State.{At, Keeps, settled_at}
+use Rattle.dm_journal.proofs.Unique.{rests_once}
 
 -- the place of the last gate doesn't matter
 pub from_here : (d : Disk) (j : LoadAt) (ps : List (List ℕ)) → Reading d j ps → Reading d (loading_at j.file j.place 0 j.end) ps
@@ -33,3 +35,13 @@ loaded_all d old new ps result found ok none finds gives =
     let here : Finds d old ps None = subst (λ (o : Option (Bor (List ℕ))). Finds d old ps o) none finds in
     let at : new ≡ old = subst (λ (r : Result (Option (Bor (List ℕ))) LoadError). Gives old r new) (ok ∙ ap Ok none) gives in
     subst (λ (j : LoadAt). Keeps d (settled_at j.file j.place) ps) (sym at) here
+
+-- the load stays at its file
+pub same_file : (old new : LoadAt) (result : Result (Option (Bor (List ℕ))) LoadError) → Gives old result new → new.file ≡ old.file
+same_file old new (Ok (Some payload)) gives = ap (λ (j : LoadAt). j.file) gives
+same_file old new (Ok None) gives = ap (λ (j : LoadAt). j.file) gives
+same_file old new (Err e) gives = ap (λ (j : LoadAt). j.file) gives
+
+-- a journal that stands at the end of a file that is at rest keeps what that stands for
+pub same_kept : (d : Disk) (j : At) (ps qs : List (List ℕ)) → Keeps d j qs → AllByRecursion Fits ps → AtRest ps (d.seen j.file) → Keeps d j ps
+same_kept d j ps qs k fits rest = subst (λ (l : List (List ℕ)). Keeps d j l) (rests_once qs ps (d.seen j.file) k.fits fits k.seen rest) k

@@ -2,7 +2,7 @@
 //! in their bay: a loop that loads, and two journals that are appended to in turn.
 ghost use Rattle.std.specs.Prelude.{◌≡◌, ◌≢◌, ◌<◌, ℕ, List, [], None, IsTrue, IfOk, IfSome};
 ghost use Rattle.dm_host.specs.Works.{Works, Every};
-ghost use Rattle.dm_journal.specs.Grammar.{Fits};
+ghost use Rattle.dm_journal.specs.Grammar.{Fits, StandsFor};
 ghost use Rattle.dm_journal.specs.State.{Keeps};
 ghost use Rattle.dm_journal.specs.Pair.{IsPrefix};
 
@@ -41,6 +41,7 @@ fn load<B: Bay>(
     requires { file < 256 }
     ensures kept { IsTrue (B.disk bay.old).told → IfOk result (λ found. IfSome found (λ j. (ps : List (List ℕ)) × Keeps (B.disk bay.new) j ps)) }
     ensures settled { IfOk result (λ found. IfSome found (λ j. j.doubt ≡ None)) }
+    ensures same { IsTrue (B.disk bay.old).told → (ps : List (List ℕ)) → StandsFor ps ((B.disk bay.old).seen file) → IfOk result (λ found. IfSome found (λ j. Keeps (B.disk bay.new) j ps)) }
 {
     let mut loading = Loading::begin(alloc, bay, file)?;
     for _ in 0..limit {
