@@ -4,12 +4,14 @@ ghost use Rattle.dm_journal.specs.declared.error.LoadError.TheVariants.{Failed, 
 
 use std::alloc::AllocError;
 
+/// Why a load gave no journal, or no payload. docs/FORMATS.md, "A journal", says what damage is.
 #[derive(Clone, Copy, Debug, PartialEq, Eq)]
 pub enum LoadError {
-    /// The outside failed.
+    /// A call of the device failed.
     Failed,
     /// At this place of this file stands an open gate, and no whole frame behind it.
     Damaged { file: u32, place: u64 },
+    /// Memory for the buffer was refused.
     NoMemory,
 }
 

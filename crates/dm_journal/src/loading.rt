@@ -41,7 +41,8 @@ impl Loading {
     ghost use Rattle.std.specs.Io.BufRead.{Rests};
     ghost use Rattle.dm_journal.specs.contracts.loading.Loading.{the_row};
 
-    /// Syncs the file and stands at its start. A file of at most a byte gets a closed gate first.
+    /// Syncs the file and stands at its start. A file of at most a byte gets a closed gate first. After an error
+    /// the file stands for the payloads that it stood for; memory is asked for last.
     pub fn begin<B: Bay>(alloc: Global, bay: &mut B, file: u32) -> Result<Loading, LoadError>
         requires { file < 256 }
         ensures reading { IsTrue (B.disk bay.old).told → IfOk result (λ loading. Reading (B.disk bay.new) loading []) }
