@@ -3,7 +3,7 @@ use Rattle.std.proofs.Common.{◌≡◌, ℕ, ◌<◌, ◌≤◌, Bool, true, fa
 use Rattle.std.proofs.lemmas.Bool.{and_parts, and_from, eqb-true, false≢true, ne_eqb}
 use Rattle.std.specs.List.{AllByRecursion, flat_map}
 use Rattle.std.specs.Prelude.{IsTrue, ◌==◌}
-use Rattle.dm_base.specs.Naming.{IsName, IsPath, is_name_byte, is_spelled}
+use Rattle.dm_base.specs.Naming.{IsName, IsPath, is_name_byte, is_spelled, is_all_name, is_serial_byte, is_all_serial}
 
 abbrev pub slashed : List (List ℕ) → List ℕ
 slashed names = flat_map (λ (name : List ℕ). 47 ∷ name) names
@@ -113,3 +113,25 @@ decided text first rest r e slash fits is =
       λ t. subst IsPath (sym whole) (path_of rest (sym is ∙ t) (subst (λ (l : List ℕ). length l ≤ 255) whole fits)),
       λ p. let s = passes text p in let same : rest ≡ s.rest = (let both : 47 ∷ rest ≡ 47 ∷ s.rest = sym whole ∙ s.is in cc) in is ∙ ap (is_spelled false) same ∙ s.passes,
     )
+
+-- a test of each byte, and the fact of each byte
+pub all_name : (bytes : List ℕ) → IsTrue (is_all_name bytes) → AreNameBytes bytes
+all_name [] h = tt
+all_name (b ∷ bs) h = let parts = and_parts (is_name_byte b) (is_all_name bs) h in (parts.0, all_name bs parts.1)
+
+pub all_name_back : (bytes : List ℕ) → AreNameBytes bytes → IsTrue (is_all_name bytes)
+all_name_back [] h = refl
+all_name_back (b ∷ bs) h = and_from (is_name_byte b) (is_all_name bs) h.0 (all_name_back bs h.1)
+
+pub all_serial : (bytes : List ℕ) → IsTrue (is_all_serial bytes) → AllByRecursion (λ b. IsTrue (is_serial_byte b)) bytes
+all_serial [] h = tt
+all_serial (b ∷ bs) h = let parts = and_parts (is_serial_byte b) (is_all_serial bs) h in (parts.0, all_serial bs parts.1)
+
+pub all_serial_back : (bytes : List ℕ) → AllByRecursion (λ b. IsTrue (is_serial_byte b)) bytes → IsTrue (is_all_serial bytes)
+all_serial_back [] h = refl
+all_serial_back (b ∷ bs) h = and_from (is_serial_byte b) (is_all_serial bs) h.0 (all_serial_back bs h.1)
+
+-- a list whose length isn't 0 has an item
+pub some_length : (bytes : List ℕ) → (length bytes == 0) ≡ false → 0 < length bytes
+some_length [] e = absurd (false≢true (sym e))
+some_length (b ∷ bs) e = omega arith

@@ -24,3 +24,26 @@ pub record IsPath (text : List ℕ) : Type 0 where
 abbrev pub is_spelled : Bool → List ℕ → Bool
 is_spelled named [] = named
 is_spelled named (b ∷ bs) = if b == 47 then named && is_spelled false bs else is_name_byte b && is_spelled true bs
+
+-- the name of a dump: 1 to 32 bytes of a name
+pub record IsDumpName (text : List ℕ) : Type 0 where
+  pub some : 0 < length text
+  pub bytes : AllByRecursion (λ b. IsTrue (is_name_byte b)) text
+  pub fits : length text ≤ 32
+
+abbrev pub is_all_name : List ℕ → Bool
+is_all_name [] = true
+is_all_name (b ∷ bs) = is_name_byte b && is_all_name bs
+
+-- A-Z, 0-9
+abbrev pub is_serial_byte : ℕ → Bool
+is_serial_byte b = (nat_le 65 b && nat_le b 90) || (nat_le 48 b && nat_le b 57)
+
+-- the serial number of a volume: six of these
+pub record IsSerial (text : List ℕ) : Type 0 where
+  pub six : length text ≡ 6
+  pub bytes : AllByRecursion (λ b. IsTrue (is_serial_byte b)) text
+
+abbrev pub is_all_serial : List ℕ → Bool
+is_all_serial [] = true
+is_all_serial (b ∷ bs) = is_serial_byte b && is_all_serial bs

@@ -12,6 +12,14 @@ pub struct Bfid(pub u128);
 #[derive(Clone, Copy, Debug, PartialEq, Eq, PartialOrd, Ord)]
 pub struct GroupId(pub u8);
 
+/// Number of an inode: that of the change that made it.
+#[derive(Clone, Copy, Debug, PartialEq, Eq, PartialOrd, Ord)]
+pub struct Ino(pub u64);
+
+/// A time, in seconds since 1970.
+#[derive(Clone, Copy, Debug, PartialEq, Eq, PartialOrd, Ord)]
+pub struct Secs(pub u64);
+
 /// How many digits a `Bfid` prints as.
 pub const BFID_DIGITS: usize = 32;
 

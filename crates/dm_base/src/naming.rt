@@ -1,7 +1,7 @@
 //! Names of files, and their grammar (docs/DEFINITIONS.md, "Names").
 
 ghost use Rattle.std.specs.Prelude.{◌≡◌, ◌↔◌, false, IsTrue, IfOk, IsErrOf};
-ghost use Rattle.dm_base.specs.Naming.{IsPath, is_name_byte as is_name_byte_of, is_spelled};
+ghost use Rattle.dm_base.specs.Naming.{IsDumpName, IsPath, is_all_name, is_name_byte as is_name_byte_of, is_spelled};
 
 use crate::memory::NoMemory;
 use std::alloc::Global;
@@ -10,6 +10,9 @@ use std::marker::Model;
 
 /// The most bytes that a path has.
 pub const PATH_LIMIT: usize = 255;
+
+/// The most bytes that the name of a dump has.
+pub const DUMP_NAME_LIMIT: usize = 32;
 
 /// Why a text was not taken as a name.
 #[derive(Clone, Copy, Debug, PartialEq, Eq)]
@@ -124,6 +127,110 @@ impl Ord for Path {
     }
 }
 
+/// The name of a dump: 1 to 32 of the bytes that names are made of.
+#[derive(Drop)]
+pub struct DumpName {
+    text: Vec<u8>,
+}
+
+impl Model for DumpName {
+    ghost use Rattle.std.specs.Prelude.{List, ℕ};
+
+    ghost Value = { List ℕ };
+
+    ghost view = { λ p. p.text.items };
+}
+
+impl DumpName {
+    /// The dump's name of this text, of which it takes a copy.
+    pub fn of_bytes(alloc: Global, text: &[u8]) -> Result<DumpName, TextError>
+        ensures taken { IfOk result (λ name. (name ≡ text.now) × IsDumpName text.now) }
+        ensures grammar { IsErrOf result TextError.Grammar ↔ (IsDumpName text.now → ⊥) }
+    {
+        if !is_dump_name(text) {
+            return Err(TextError::Grammar);
+        }
+        match Vec::from_slice(alloc, text) {
+            Ok(text) => Ok(DumpName { text }),
+            Err(_) => Err(TextError::NoMemory),
+        }
+    }
+
+    /// A copy. It takes memory of its own.
+    pub fn copied(&self, alloc: Global) -> Result<DumpName, NoMemory>
+        ensures { IfOk result (λ copy. copy ≡ self.now) }
+    {
+        Ok(DumpName {
+            text: Vec::from_slice(alloc, self.text.as_slice())?,
+        })
+    }
+
+    /// The text.
+    pub fn bytes(&self) -> &[u8]
+        ensures { result.now ≡ self.now }
+    {
+        self.text.as_slice()
+    }
+}
+
+// So are the names of dumps.
+impl PartialEq for DumpName {
+    ghost use Rattle.std.specs.Prelude.{nat_eq};
+    ghost use Rattle.std.proofs.Common.{rules};
+    ghost use Rattle.std.specs.Cmp.Rules.{comparing};
+    ghost use lib.Pointwise.{pointwise};
+
+    ghost eq = { pointwise nat_eq };
+
+    ghost laws = { Prim.search (comparing, rules) };
+
+    fn eq(&self, other: &DumpName) -> bool {
+        self.text.as_slice() == other.text.as_slice()
+    }
+}
+
+impl Eq for DumpName {
+    ghost use Rattle.std.proofs.Common.{rules};
+    ghost use Rattle.std.specs.Cmp.Rules.{comparing};
+
+    ghost laws = { Prim.search (comparing, rules) };
+}
+
+impl PartialOrd for DumpName {
+    ghost use Rattle.std.proofs.Common.{rules};
+    ghost use Rattle.std.specs.Cmp.{partial_order_from_own_ties};
+    ghost use Rattle.std.specs.Cmp.Rules.{comparing};
+    ghost use Rattle.std.specs.Ordering.{nat_cmp, as_partial_cmp};
+    ghost use Rattle.std.specs.Cmp.Lexicographic.{slice_cmp};
+
+    ghost partial_cmp = { as_partial_cmp (slice_cmp nat_cmp) };
+
+    ghost laws = { partial_order_from_own_ties (Prim.search (comparing, rules)) (Prim.search (comparing, rules)) };
+
+    fn partial_cmp(&self, other: &DumpName) -> Option<Ordering> {
+        Some(self.cmp(other))
+    }
+}
+
+impl Ord for DumpName {
+    ghost use Rattle.std.proofs.Common.{rules};
+    ghost use Rattle.std.specs.Cmp.Rules.{comparing};
+    ghost use Rattle.std.specs.Ordering.{nat_cmp};
+    ghost use Rattle.std.specs.Cmp.Lexicographic.{slice_cmp};
+
+    ghost cmp = { slice_cmp nat_cmp };
+
+    ghost total = { Prim.search (comparing, rules) };
+
+    ghost matches_partial_cmp = { Prim.search (comparing, rules) };
+
+    ghost matches_eq = { Prim.search (comparing, rules) };
+
+    fn cmp(&self, other: &DumpName) -> Ordering {
+        self.text.as_slice().cmp(other.text.as_slice())
+    }
+}
+
 fn is_path(text: &[u8]) -> bool
     ensures { IsTrue result ↔ IsPath text.now }
 {
@@ -158,4 +265,27 @@ fn is_name_byte(byte: u8) -> bool
     ensures { result ≡ is_name_byte_of byte }
 {
     byte.is_ascii_alphanumeric() || matches!(byte, b'.' | b'_' | b'-')
+}
+
+fn is_dump_name(text: &[u8]) -> bool
+    ensures { IsTrue result ↔ IsDumpName text.now }
+{
+    if text.is_empty() {
+        return false;
+    }
+    if text.len() > DUMP_NAME_LIMIT {
+        return false;
+    }
+    are_name_bytes(text)
+}
+
+fn are_name_bytes(text: &[u8]) -> bool
+    ensures { result ≡ is_all_name text.now }
+{
+    for byte in text {
+        if !is_name_byte(*byte) {
+            return false;
+        }
+    }
+    true
 }

@@ -42,3 +42,56 @@ fn contents_are_copied(rt: HostRuntime) -> Result<(), Fail> {
     assert!(rt; copied);
     Ok(())
 }
+
+#[test]
+fn names_of_dumps_are_taken_by_their_grammar(rt: HostRuntime) -> Result<(), Fail> {
+    let texts: [&[u8]; 2] = [b"d", b"A.z_0-9"];
+    for text in texts {
+        match DumpName::of_bytes(rt.alloc(), text) {
+            Ok(name) => assert_eq!(rt; name.bytes(), text),
+            Err(error) => assert_eq!(rt; error, TextError::NoMemory, "with ample memory"),
+        }
+    }
+    let others: [&[u8]; 3] = [b"", b"a/b", b"012345678901234567890123456789012"];
+    for text in others {
+        let refused = matches!(
+            DumpName::of_bytes(rt.alloc(), text),
+            Err(TextError::Grammar)
+        );
+        assert!(rt; refused);
+    }
+    Ok(())
+}
+
+#[test]
+fn serial_numbers_are_six_capitals_and_digits(rt: HostRuntime) {
+    assert_eq!(rt; Vsn::of_bytes(b"AA0001"), Some(Vsn(*b"AA0001")));
+    let others: [&[u8]; 4] = [b"AA001", b"AA00011", b"aa0001", b"AA-001"];
+    for text in others {
+        assert_eq!(rt; Vsn::of_bytes(text), None);
+    }
+}
+
+#[test]
+fn lists_are_copied(rt: HostRuntime) -> Result<(), Fail> {
+    let list = Listed::from_vec(Vec::from_slice(rt.alloc(), &[GroupId(1), GroupId(2)])?);
+    let copied =
+        matches!(list.copied(rt.alloc()), Ok(copy) if copy.as_slice() == [GroupId(1), GroupId(2)].as_slice());
+    assert!(rt; copied);
+    let name = DumpName::of_bytes(rt.alloc(), b"d")
+        .ok()
+        .ok_or("there is memory")?;
+    let name_copied =
+        matches!(name.copied(rt.alloc()), Ok(copy) if copy.bytes() == b"d".as_slice());
+    assert!(rt; name_copied);
+    Ok(())
+}
+
+#[test]
+fn a_list_of_volumes_shows_those_that_count(rt: HostRuntime) {
+    let list = SparseList {
+        count: 1,
+        vsns: [Vsn(*b"AA0001"); 16],
+    };
+    assert_eq!(rt; list.as_slice(), [Vsn(*b"AA0001")].as_slice());
+}
