@@ -1,0 +1,4 @@
+pub mod Label
+pub mod Zone
+pub mod Room
+pub mod Known
