@@ -2,3 +2,4 @@ pub mod Label
 pub mod Zone
 pub mod Room
 pub mod Known
+pub mod Plan
