@@ -39,3 +39,11 @@ module _ {K : Type 0} {R : K → K → Ordering} (o : KeyOrder R) where
         | Equal ↦ λ e. absurd (differ (o.same q k e))
         | Greater ↦ λ e. refl
       ] refl
+
+  -- keys that tie are equal
+  pub same_of : (q k : K) → eq_by_cmp R q k ≡ true → q ≡ k
+  same_of q k t =
+      elim (same_or k q) [
+        | inl same ↦ same
+        | inr differ ↦ let f = apart k q differ in cc
+      ]
