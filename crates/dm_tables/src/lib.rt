@@ -1,0 +1,14 @@
+//! Tables of rows: by a number, and by a text. Contracts see each as a finite map.
+//!
+//! The rows lie in the order of their keys, so a look-up and a step to the next row cost the
+//! logarithm of what the table has. Only a row at a new key takes memory.
+#![tactic(auto)]
+
+mod numbers;
+mod texts;
+
+pub use numbers::Numbers;
+pub use texts::Texts;
+
+#[cfg(test)]
+mod tests;

@@ -1,0 +1,60 @@
+use super::*;
+use dm_base::{Bytes, NoMemory};
+use std::alloc::Global;
+use std::test::Fail;
+
+fn text(alloc: Global, bytes: &[u8]) -> Result<Bytes, NoMemory> {
+    Ok(Bytes::from_vec(Vec::from_slice(alloc, bytes)?))
+}
+
+#[test]
+fn keeps_rows_by_number(rt: HostRuntime) -> Result<(), Fail> {
+    let alloc = rt.alloc();
+    let mut ages = Numbers::empty(alloc);
+    assert!(rt; ages.is_empty());
+    for (key, value) in [(30, 3u8), (10, 1), (20, 2), (10, 4)] {
+        ages.insert(key, value)?;
+    }
+    assert_eq!(rt; ages.len(), 3);
+    assert_eq!(rt; ages.get(10).copied(), Some(4));
+    assert_eq!(rt; ages.get(11).copied(), None);
+    assert!(rt; ages.contains(30));
+    assert_eq!(rt; ages.replace(20, 5), Some(2));
+    assert_eq!(rt; ages.replace(21, 6), None);
+    assert_eq!(rt; ages.remove(30), Some(3));
+    assert_eq!(rt; ages.remove(30), None);
+    let mut rows = Vec::new(alloc);
+    for (key, value) in ages.entries() {
+        rows.push((*key, *value))?;
+    }
+    assert_eq!(rt; rows.as_slice(), [(10, 4), (20, 5)].as_slice());
+    Ok(())
+}
+
+#[test]
+fn keeps_rows_by_text(rt: HostRuntime) -> Result<(), Fail> {
+    let alloc = rt.alloc();
+    let mut sizes = Texts::empty(alloc);
+    assert!(rt; sizes.is_empty());
+    for (name, size) in [("/b", 1u8), ("/a/c", 2), ("/a", 3), ("/b", 4)] {
+        sizes.insert(text(alloc, name.as_bytes())?, size)?;
+    }
+    assert_eq!(rt; sizes.len(), 3);
+    assert_eq!(rt; sizes.get(b"/b").copied(), Some(4));
+    assert_eq!(rt; sizes.get(b"/").copied(), None);
+    assert!(rt; sizes.contains(b"/a"));
+    assert_eq!(rt; sizes.replace(b"/a/c", 5), Some(2));
+    assert_eq!(rt; sizes.replace(b"/a/", 6), None);
+    assert_eq!(rt; sizes.remove(b"/b"), Some(4));
+    assert_eq!(rt; sizes.remove(b"/b"), None);
+    let mut rows = Vec::new(alloc);
+    for (name, size) in sizes.entries() {
+        rows.push((name.as_slice(), *size))?;
+    }
+    assert_eq!(rt; rows.len(), 2);
+    assert_eq!(rt; rows[0].0, b"/a".as_slice());
+    assert_eq!(rt; rows[0].1, 3);
+    assert_eq!(rt; rows[1].0, b"/a/c".as_slice());
+    assert_eq!(rt; rows[1].1, 5);
+    Ok(())
+}
