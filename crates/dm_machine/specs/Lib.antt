@@ -1,0 +1,9 @@
+pub mod Tests
+pub mod Plan
+pub mod Files
+pub mod Volumes
+pub mod Effects
+pub mod DaemonCalls
+pub mod GroupCalls
+pub mod VolumeCalls
+pub mod Step

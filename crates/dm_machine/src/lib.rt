@@ -1,0 +1,19 @@
+//! The joint machine: what the daemon, the volume groups and their volumes do together, one event at a time.
+//!
+//! An event is one call of one component, a fault of one, or the discovery that a step in doubt had landed. Which events
+//! may come, what each is answered and what stands after it is defined in `specs/` (docs/DEFINITIONS.md, "The joint
+//! machine"). All that is claimed of the product is claimed in these words.
+#![tactic(auto)]
+
+mod answer;
+mod call;
+mod plan;
+mod state;
+
+pub use answer::Answer;
+pub use call::{Call, Component, DaemonCall, Event, GroupCall, VolumeCall};
+pub use plan::{Ending, Mark, Opening, Payload, Prepared};
+pub use state::{
+    CopyReservation, CopyState, Daemon, Group, Image, Joint, MountState, Mounted, OpenRequest,
+    Origin, Recall, RequestKind, Reserved, Side, Worker, WrittenZone,
+};
