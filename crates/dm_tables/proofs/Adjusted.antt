@@ -1,10 +1,10 @@
 -- Tables of which a row, or each, is changed by a function.
-use Rattle.std.proofs.Common.{◌≡◌, ◌≢◌, ◌⊎◌, Bool, true, false, cond, List, [], ◌∷◌, Option, None, Some, option_map, refl, sym, ap, subst, ◌∙◌, inl, inr, Ordering}
+use Rattle.std.proofs.Common.{◌≡◌, ◌≢◌, ◌⊎◌, true, false, cond, List, [], ◌∷◌, Option, None, Some, option_map, refl, sym, ap, subst, ◌∙◌, inl, inr, Ordering}
 use Rattle.std.specs.Ordering.{eq_by_cmp}
 use Rattle.std.specs.FinMap.{FinMap, get, insert, find, entries, get-entries, get-from_entries}
 use Rattle.dm_tables.specs.Rows.{changed, EachRow, put_changed, adjust, map_values}
 use Rattle.dm_tables.proofs.Orders.{KeyOrder, same_or, same_of}
-use Rattle.dm_tables.proofs.Rows.{get-here, get-beside, inserted, each-insert}
+use Rattle.dm_tables.proofs.Rows.{get-here, get-beside, each-insert}
 
 was_mapped : {X Y : Type 0} (f : X → Y) (y : Y) (r : Option X) → option_map f r ≡ Some y → (x : X) × (r ≡ Some x) × (y ≡ f x)
 was_mapped f y None e = cc

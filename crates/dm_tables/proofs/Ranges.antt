@@ -25,10 +25,10 @@ within-by_bounds r s low high = λ place c. (omega arith, omega arith)
 
 -- Each new range lies within an old one, and those within one old one are apart: then the new ones are as the old ones were.
 pub disjoint-refine : {T U : Type 0} (old : T → Option Range) (new : U → Option Range) (from : U → T)
-  → ((t u : T) → (t ≡ u) ⊎ (t ≢ u))
-  → ((u : U) (r : Range) → new u ≡ Some r → (s : Range) × (old (from u) ≡ Some s) × Within r s)
-  → ((u v : U) (r s : Range) → u ≢ v → from u ≡ from v → new u ≡ Some r → new v ≡ Some s → Apart r s)
-  → Disjoint old → Disjoint new
+    → ((t u : T) → (t ≡ u) ⊎ (t ≢ u))
+    → ((u : U) (r : Range) → new u ≡ Some r → (s : Range) × (old (from u) ≡ Some s) × Within r s)
+    → ((u v : U) (r s : Range) → u ≢ v → from u ≡ from v → new u ≡ Some r → new v ≡ Some s → Apart r s)
+    → Disjoint old → Disjoint new
 disjoint-refine old new from same_or lies divided disjoint = λ u v r s differ e f.
     elim (same_or (from u) (from v)) [
       | inl same ↦ divided u v r s differ same e f
@@ -44,18 +44,18 @@ disjoint-fewer old new was disjoint = λ t u r s differ e f. disjoint t u r s di
 
 -- One range comes in addition, apart from each that was.
 pub disjoint-add : {T : Type 0} (old new : T → Option Range) (t : T)
-  → ((u : T) → (u ≡ t) ⊎ (u ≢ t))
-  → ((u : T) (r : Range) → u ≢ t → new u ≡ Some r → old u ≡ Some r)
-  → ((u : T) (r s : Range) → u ≢ t → new t ≡ Some r → old u ≡ Some s → Apart r s)
-  → Disjoint old → Disjoint new
+    → ((u : T) → (u ≡ t) ⊎ (u ≢ t))
+    → ((u : T) (r : Range) → u ≢ t → new u ≡ Some r → old u ≡ Some r)
+    → ((u : T) (r s : Range) → u ≢ t → new t ≡ Some r → old u ≡ Some s → Apart r s)
+    → Disjoint old → Disjoint new
 disjoint-add old new t same_or was apart disjoint = λ u v r s differ e f.
     elim (same_or u) [
       | inl here ↦ elim (same_or v) [
-          | inl there ↦ absurd (differ (here ∙ sym there))
-          | inr other ↦ apart v r s other (ap new (sym here) ∙ e) (was v s other f)
-        ]
+        | inl there ↦ absurd (differ (here ∙ sym there))
+        | inr other ↦ apart v r s other (ap new (sym here) ∙ e) (was v s other f)
+      ]
       | inr beside ↦ elim (same_or v) [
-          | inl there ↦ apart-sym s r (apart u s r beside (ap new (sym there) ∙ f) (was u r beside e))
-          | inr other ↦ disjoint u v r s differ (was u r beside e) (was v s other f)
-        ]
+        | inl there ↦ apart-sym s r (apart u s r beside (ap new (sym there) ∙ f) (was u r beside e))
+        | inr other ↦ disjoint u v r s differ (was u r beside e) (was v s other f)
+      ]
     ]

@@ -1,14 +1,21 @@
 -- The rows of a table after a change, and what holds of each of them.
-use Rattle.std.proofs.Common.{◌≡◌, ◌≢◌, ◌⊎◌, Bool, true, false, cond, List, [], ◌∷◌, Option, None, Some, option_map, is_some, refl, sym, ap, subst, ◌∙◌, inl, inr, Ordering}
-use Rattle.std.specs.List.{list_any}
-use Rattle.std.specs.Ordering.{eq_by_cmp}
-use Rattle.std.specs.FinMap.{FinMap, empty, get, insert, remove, find, keys, entries, from_entries, get-empty, get-entries, get-insert, get-remove, get-from_entries, contains_key-keys, same_map}
-use Rattle.dm_tables.specs.Rows.{passes, changed, EachRow, put_changed, adjust, any, map_values}
+use Rattle.std.proofs.Common.{◌≡◌, ◌≢◌, ◌⊎◌, cond, None, Some, refl, sym, ap, subst, ◌∙◌, inl, inr, Ordering}
+use Rattle.std.specs.FinMap.{FinMap, empty, get, insert, remove, get-empty, get-insert, get-remove, same_map}
+use Rattle.dm_tables.specs.Rows.{EachRow}
 use Rattle.dm_tables.proofs.Orders.{KeyOrder, same_or, tied, apart}
 
--- one row stands at one key
-pub one_row : {K X : Type 0} {R : K → K → Ordering} (m : FinMap R X) (k q : K) (x y : X) → k ≡ q → get m k ≡ Some x → get m q ≡ Some y → x ≡ y
-one_row m k q x y same e f = let g = ap (get m) same in cc
+-- anything holds of each of no rows
+pub each-empty : {K X : Type 0} (R : K → K → Ordering) (P : K → X → Type 0) → EachRow (empty {X = X} {R = R}) P
+each-empty {X = X} R P = λ k x e. let f = get-empty {X = X} R k in cc
+
+module _ {K X : Type 0} {R : K → K → Ordering} where
+  -- one row stands at one key
+  pub one_row : (m : FinMap R X) (k q : K) (x y : X) → k ≡ q → get m k ≡ Some x → get m q ≡ Some y → x ≡ y
+  one_row m k q x y same e f = let g = ap (get m) same in cc
+
+  -- what follows from what holds of each row
+  pub each-weaker : (P Q : K → X → Type 0) (m : FinMap R X) → ((k : K) (x : X) → P k x → Q k x) → EachRow m P → EachRow m Q
+  each-weaker P Q m weaker each = λ k x e. weaker k x (each k x e)
 
 module _ {K X : Type 0} {R : K → K → Ordering} (o : KeyOrder R) where
   -- tables with equal look-ups are equal
@@ -44,13 +51,6 @@ module _ {K X : Type 0} {R : K → K → Ordering} (o : KeyOrder R) where
         | inl same ↦ let f = removed-here m k in let g = ap (get (remove m k)) same in cc
         | inr differ ↦ (differ, sym (removed-beside m k q differ) ∙ e)
       ]
-
-  -- ---- of each row
-  pub each-empty : (P : K → X → Type 0) → EachRow (empty {X = X} {R = R}) P
-  each-empty P k x e = let f = get-empty {X = X} R k in cc
-
-  pub each-weaker : (P Q : K → X → Type 0) (m : FinMap R X) → ((k : K) (x : X) → P k x → Q k x) → EachRow m P → EachRow m Q
-  each-weaker P Q m weaker each = λ k x e. weaker k x (each k x e)
 
   -- P holds of the new row, and of those beside it
   pub each-beside : (P : K → X → Type 0) (m : FinMap R X) (k : K) (v : X) → P k v → ((q : K) (x : X) → q ≢ k → get m q ≡ Some x → P q x) → EachRow (insert m k v) P
@@ -93,9 +93,9 @@ module _ {K X : Type 0} {R : K → K → Ordering} (o : KeyOrder R) where
             let e : x ≢ q = λ f. apart (sym same ∙ f) in
             get-beside (insert m k v) q w x e ∙ ap (get (insert m k v)) same ∙ get-here m k v ∙ sym (ap (get (insert (insert m q w) k v)) same ∙ get-here (insert m q w) k v)
         | inr differ ↦ elim (same_or o q x) [
-            | inl same ↦ ap (get (insert (insert m k v) q w)) same ∙ get-here (insert m k v) q w ∙ sym (get-beside (insert m q w) k v x differ ∙ ap (get (insert m q w)) same ∙ get-here m q w)
-            | inr other ↦ get-beside (insert m k v) q w x other ∙ get-beside m k v x differ ∙ sym (get-beside (insert m q w) k v x differ ∙ get-beside m q w x other)
-          ]
+          | inl same ↦ ap (get (insert (insert m k v) q w)) same ∙ get-here (insert m k v) q w ∙ sym (get-beside (insert m q w) k v x differ ∙ ap (get (insert m q w)) same ∙ get-here m q w)
+          | inr other ↦ get-beside (insert m k v) q w x other ∙ get-beside m k v x differ ∙ sym (get-beside (insert m q w) k v x differ ∙ get-beside m q w x other)
+        ]
       ])
 
   -- what is put there and taken out, and taken out and put there

@@ -1,5 +1,5 @@
 -- The entries of a `BTreeMap`, as a finite map.
-use Rattle.std.proofs.Common.{◌≡◌, Bool, true, false, ◌&&◌, T, List, [], ◌∷◌, Option, None, Some, Result, Ok, Err, OnErr, OnSome, cond, length, All, refl, ap, sym, subst, ◌∙◌, Ordering, Less, is_lt}
+use Rattle.std.proofs.Common.{◌≡◌, T, List, [], ◌∷◌, Option, None, Some, Result, Ok, Err, OnErr, OnSome, cond, length, All, refl, ap, sym, subst, ◌∙◌, Ordering, Less, is_lt}
 use Rattle.std.specs.Ordering.{eq_by_cmp}
 use Rattle.std.specs.Cmp.{eq_by_cmp_equiv}
 use Rattle.std.specs.Map.{lookup, keys_of}
@@ -7,13 +7,10 @@ use Rattle.std.specs.BTreeMap.{is_at}
 use Rattle.std.specs.List.Sorted.{IsStrictlySortedBy}
 use Rattle.std.specs.List.{AllByRecursion}
 use Rattle.std.proofs.lemmas.List.Elements.{All-same, All-weaker}
-use Rattle.std.specs.FinMap.{empty, get, insert, remove, find, is_sorted, entries, entries_sorted, from_entries, get-entries, get-from_entries, get-insert, get-remove, len, len-entries, same_map}
-use Rattle.std.specs.FinMap.Entries.{below_all, same_entries}
+use Rattle.std.specs.FinMap.{empty, get, insert, remove, find, is_sorted, entries, from_entries, get-from_entries, get-insert, get-remove, len, len-entries, same_map}
+use Rattle.std.specs.FinMap.Entries.{below_all}
 use Rattle.dm_tables.proofs.Orders.{KeyOrder}
-
-both : (a b : Bool) → T a → T b → T (a && b)
-both true b p q = q
-both false b p q = p
+use Rattle.dm_tables.proofs.Entries.{both, entries-from_entries}
 
 -- what holds, holds on an error, and where there is a value
 pub on_err : {T E P : Type 0} (r : Result T E) → P → OnErr r P
@@ -66,9 +63,7 @@ module _ {K X : Type 0} {R : K → K → Ordering} (o : KeyOrder R) where
 
   -- the rows are the entries
   pub entries-view : (es : List (K × X)) → IsStrictlySortedBy R (keys_of es) → entries (from_entries {R = R} es) ≡ es
-  entries-view es h =
-      let m = from_entries {R = R} es in
-      same_entries R o.total o.same (entries m) es (entries_sorted m) (sorted es h) (λ q. sym (get-entries m q) ∙ get-from_entries o.total es q)
+  entries-view es h = entries-from_entries o es (sorted es h)
 
   -- as many
   pub len-view : (es : List (K × X)) → IsStrictlySortedBy R (keys_of es) → len (from_entries {R = R} es) ≡ length es
