@@ -6,7 +6,11 @@
 #![tactic(auto)]
 
 mod daemon;
+mod daemon_steps;
+mod entries;
 mod group;
+mod group_steps;
+mod inodes;
 
 pub use daemon::{AskedCopy, Contents, DaemonRecord, DaemonStep, DaemonTables, Entry, Inode};
 pub use group::{BitfileRow, GroupRecord, GroupStep, GroupTables, VolumeRow};
