@@ -1,5 +1,5 @@
 -- A loop that asks each row, and one that adds up a weight.
-use Rattle.std.proofs.Common.{◌≡◌, ◌≤◌, ◌<◌, ◌+◌, ◌*◌, ◌^◌, ℕ, Bool, true, false, ◌||◌, List, [], ◌∷◌, length, refl, sym, ap, ◌∙◌, arith, Ordering}
+use Rattle.std.proofs.Common.{◌≡◌, ◌≤◌, ◌<◌, ◌+◌, ◌*◌, ◌^◌, ℕ, suc, Bool, true, false, ◌||◌, List, [], ◌∷◌, length, refl, sym, ap, ◌∙◌, arith, Ordering}
 use Rattle.std.specs.List.{list_any}
 use Rattle.std.specs.FinMap.{FinMap, entries, len, len-entries}
 use Rattle.dm_tables.specs.Rows.{any}
@@ -42,7 +42,7 @@ module _ {K X : Type 0} (w : X → ℕ) where
   pub added_on : (sum add whole count : ℕ) (left rest : List (K × X)) (k : K) (x : X) → left ≡ (k, x) ∷ rest → add ≡ w x → add < 2 ^ 64 → Added w sum left whole count → Added w (sum + add) rest whole count
   added_on sum add whole count left rest k x is same small so_far =
       let parts : sum_of w left ≡ w x + sum_of w rest = ap (sum_of w) is in
-      let longer : length left ≡ 1 + length rest = ap length is in
+      let longer : length left ≡ suc (length rest) = ap length is in
       let so = so_far.is in
       let low = so_far.low in
       record { is = omega arith; low = omega arith }
@@ -50,7 +50,7 @@ module _ {K X : Type 0} (w : X → ℕ) where
   -- and there is room for it
   pub added_fits : (sum add whole count : ℕ) (left rest : List (K × X)) (k : K) (x : X) → left ≡ (k, x) ∷ rest → add < 2 ^ 64 → count < 2 ^ 63 → Added w sum left whole count → sum + add < 2 ^ 128
   added_fits sum add whole count left rest k x is small few so_far =
-      let longer : length left ≡ 1 + length rest = ap length is in
+      let longer : length left ≡ suc (length rest) = ap length is in
       let low = so_far.low in
       omega arith
 
@@ -65,4 +65,5 @@ module _ {K X : Type 0} (w : X → ℕ) where
 pub added_whole : {K X : Type 0} {R : K → K → Ordering} (w : X → ℕ) (left : List (K × X)) (m : FinMap R X) → left ≡ entries m → Added w 0 left (total w m) (len m)
 added_whole w left m is =
     let many : length left ≡ len m = ap length is ∙ sym (len-entries m) in
-    record { is = ap (sum_of w) is ∙ sym (total-entries w m); low = omega arith }
+    let whole : sum_of w left ≡ total w m = ap (sum_of w) is ∙ sym (total-entries w m) in
+    record { is = omega arith; low = omega arith }
