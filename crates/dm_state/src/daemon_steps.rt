@@ -28,12 +28,12 @@ impl DaemonTables {
 
     /// The tables after the record: its time, and then its step. Each is done, whether it may be or not: whether it may
     /// be is for the caller to ask.
-    pub fn applied(mut self, alloc: Global, record: &DaemonRecord) -> Result<DaemonTables, NoMemory>
-        requires { CounterFits self record.now }
-        ensures { IfOk result (λ t. t ≡ landed self record.now) }
+    pub fn applied(mut self, alloc: Global, next: &DaemonRecord) -> Result<DaemonTables, NoMemory>
+        requires { CounterFits self next.now }
+        ensures { IfOk result (λ t. t ≡ landed self next.now) }
     {
-        self.time = record.time;
-        match &record.step {
+        self.time = next.time;
+        match &next.step {
             DaemonStep::Write {
                 path,
                 change,

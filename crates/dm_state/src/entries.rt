@@ -1,13 +1,13 @@
 //! What the daemon knows of a bitfile.
 
-ghost use Rattle.std.specs.Prelude.{◌≡◌, IfOk, option_map};
+ghost use Rattle.std.specs.Prelude.{◌≡◌, IfOk, map, option_map};
 ghost use Rattle.dm_tables.specs.Rows.{adjust};
 ghost use Rattle.dm_state.specs.Inodes.{is_named as is_named_by};
-ghost use Rattle.dm_state.specs.Entries.{asks as asks_of, has_stored as has_stored_of, is_stored as is_stored_of, is_complete as is_complete_of, new_entry, stored_by, let_go as let_go_of, let_go_if as let_go_if_of};
+ghost use Rattle.dm_state.specs.Entries.{asks as asks_of, has_stored as has_stored_of, is_stored as is_stored_of, is_complete as is_complete_of, marked, new_entry, stored_by, let_go as let_go_of, let_go_if as let_go_if_of};
 
 use crate::daemon::{AskedCopy, Entry, Inode};
 use dm_base::{Bfid, GroupId, Listed, NoMemory, Secs};
-use dm_tables::Numbers;
+use dm_tables::{Numbers, Test};
 use std::alloc::Global;
 
 impl Entry {
@@ -75,16 +75,23 @@ impl Entry {
             dropping,
         } = self;
         let mut copies = copies.into_vec();
-        for copy in copies.iter_mut() {
-            if copy.group.0 == group.0 {
-                copy.stored = true;
-            }
-        }
+        mark_stored(copies.as_mut_slice(), group);
         Entry {
             len,
             copies: Listed::from_vec(copies),
             gone,
             dropping,
+        }
+    }
+}
+
+// The copies of the group are stored.
+fn mark_stored(copies: &mut [AskedCopy], group: GroupId)
+    ensures { copies.new ≡ map (marked group.0) copies.old }
+{
+    for copy in copies.iter_mut() {
+        if copy.group.0 == group.0 {
+            copy.stored = true;
         }
     }
 }
@@ -155,12 +162,21 @@ pub(crate) fn let_go_if(
 fn is_named(inodes: &Numbers<Inode>, bfid: Bfid) -> bool
     ensures { result ≡ is_named_by inodes.now bfid.0 }
 {
-    for (_, inode) in inodes.entries() {
-        if let Some(named) = inode.contents.bitfile()
-            && named.0 == bfid.0
-        {
-            return true;
+    inodes.any(&Naming(bfid))
+}
+
+// Asks whether an inode names the bitfile.
+struct Naming(Bfid);
+
+impl Test<Inode> for Naming {
+    ghost use Rattle.dm_state.specs.Inodes.{bitfile_of, is_bitfile};
+
+    ghost passes = { λ naming inode. is_bitfile naming.0.0 (bitfile_of inode.contents) };
+
+    fn test(&self, inode: &Inode) -> bool {
+        match inode.contents.bitfile() {
+            Some(bfid) => bfid.0 == self.0.0,
+            None => false,
         }
     }
-    false
 }

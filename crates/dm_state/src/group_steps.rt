@@ -25,12 +25,12 @@ impl GroupTables {
 
     /// The tables after the record: its time, and then its step. Each is done, whether it may be or not: whether it may
     /// be is for the caller to ask.
-    pub fn applied(mut self, alloc: Global, record: &GroupRecord) -> Result<GroupTables, NoMemory>
-        requires { ChunksFit record.now }
-        ensures { IfOk result (λ t. t ≡ group_landed self record.now) }
+    pub fn applied(mut self, alloc: Global, next: &GroupRecord) -> Result<GroupTables, NoMemory>
+        requires { ChunksFit next.now }
+        ensures { IfOk result (λ t. t ≡ group_landed self next.now) }
     {
-        self.time = record.time;
-        match &record.step {
+        self.time = next.time;
+        match &next.step {
             GroupStep::Volume { vsn, slot, size } => {
                 let name = Bytes::from_vec(Vec::from_slice(alloc, &vsn.0)?);
                 self.volumes.insert(name, labelled(*slot, *size))?;
@@ -74,8 +74,8 @@ fn raise_end(volumes: &mut Texts<VolumeRow>, chunk: Chunk)
     requires { chunk.place + chunk.len < 2 ^ 64 }
     ensures { volumes.new ≡ adjust volumes.old chunk.vsn.0 (written_to chunk) }
 {
-    if let Some(row) = volumes.get(&chunk.vsn.0) {
+    if let Some(row) = volumes.get(&chunk.vsn.0).copied() {
         let end = row.end.max(chunk.place + chunk.len);
-        let _ = volumes.replace(&chunk.vsn.0, VolumeRow { end, ..*row });
+        let _ = volumes.replace(&chunk.vsn.0, VolumeRow { end, ..row });
     }
 }
