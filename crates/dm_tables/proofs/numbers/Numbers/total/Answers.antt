@@ -1,4 +1,4 @@
-use Rattle.std.proofs.Common.{subst, sym, ◌<◌, ◌^◌, ◌+◌, ◌∙◌}
+use Rattle.std.proofs.Common.{rules, subst, sym, ◌<◌, ◌^◌, ◌+◌, ◌∙◌}
 use Rattle.dm_tables.proofs.Loops.{added_whole, added_on, added_fits, added_end}
 use Rattle.dm_tables.proofs.numbers.Numbers.total.Goals as goal
 
@@ -8,8 +8,9 @@ loop-row-init g c =
 
 pub overflow_add-sum : goal.overflow_add-sum
 overflow_add-sum g c =
-    added_fits (g.W.Weight.weight c.args.weight.now) c.loop-row.sum c.from-sum.result _ _ c.loop-row.row-iterator c.next.new.self c.in-Some.field-0-0.now c.in-Some.row.now
-    c.in-Some.ensures.steps (subst (λ n. n < 2 ^ 64) (sym c.from-sum.ensures) c.weigh.type_inv) c.entries-row-items.ensures.small c.loop-row.invariant
+    let room = added_fits (g.W.Weight.weight c.args.weight.now) c.loop-row.sum c.from-sum.result _ _ c.loop-row.row-iterator c.next.new.self c.in-Some.field-0-0.now c.in-Some.row.now
+    c.in-Some.ensures.steps (subst (λ n. n < 2 ^ 64) (sym c.from-sum.ensures) c.weigh.type_inv) c.entries-row-items.ensures.small c.loop-row.invariant in
+    search rules
 
 pub loop-row-preserved : goal.loop-row-preserved
 loop-row-preserved g c =
