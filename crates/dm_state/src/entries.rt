@@ -1,9 +1,9 @@
 //! What the daemon knows of a bitfile.
 
-ghost use Rattle.std.specs.Prelude.{◌≡◌, IfOk, map, option_map};
+ghost use Rattle.std.specs.Prelude.{◌≡◌, IfOk, option_map};
 ghost use Rattle.dm_tables.specs.Rows.{adjust};
 ghost use Rattle.dm_state.specs.Inodes.{is_named as is_named_by};
-ghost use Rattle.dm_state.specs.Entries.{asks as asks_of, has_stored as has_stored_of, is_stored as is_stored_of, is_complete as is_complete_of, marked, new_entry, stored_by, let_go as let_go_of, let_go_if as let_go_if_of};
+ghost use Rattle.dm_state.specs.Entries.{asks as asks_of, has_stored as has_stored_of, is_stored as is_stored_of, is_complete as is_complete_of, marked as marked_of, new_entry, stored_by, let_go as let_go_of, let_go_if as let_go_if_of};
 
 use crate::daemon::{AskedCopy, Entry, Inode};
 use dm_base::{Bfid, GroupId, Listed, NoMemory, Secs};
@@ -65,39 +65,37 @@ impl Entry {
     }
 
     // The group has stored its copy.
-    fn with_stored(self, group: GroupId) -> Entry
-        ensures { result ≡ stored_by group.0 self }
+    fn with_stored(&self, alloc: Global, group: GroupId) -> Result<Entry, NoMemory>
+        ensures { IfOk result (λ entry. entry ≡ stored_by group.0 self.now) }
     {
-        let Entry {
-            len,
-            copies,
-            gone,
-            dropping,
-        } = self;
-        let mut copies = copies.into_vec();
-        mark_stored(copies.as_mut_slice(), group);
-        Entry {
-            len,
-            copies: Listed::from_vec(copies),
-            gone,
-            dropping,
+        let mut copies = Vec::new(alloc);
+        for copy in self.copies.as_slice() {
+            copies.push(copy.marked(group))?;
         }
+        Ok(Entry {
+            len: self.len,
+            copies: Listed::from_vec(copies),
+            gone: self.gone,
+            dropping: self.dropping,
+        })
     }
 }
 
-// The copies of the group are stored.
-fn mark_stored(copies: &mut [AskedCopy], group: GroupId)
-    ensures { copies.new ≡ map (marked group.0) copies.old }
-{
-    for copy in copies.iter_mut() {
-        if copy.group.0 == group.0 {
-            copy.stored = true;
+impl AskedCopy {
+    // The copy, stored where it is the group's.
+    fn marked(self, group: GroupId) -> AskedCopy
+        ensures { result ≡ marked_of group.0 self }
+    {
+        AskedCopy {
+            group: self.group,
+            stored: self.group.0 == group.0 || self.stored,
         }
     }
 }
 
 // The group has stored its copy of the bitfile, if it has an entry.
 pub(crate) fn store(
+    alloc: Global,
     entries: &mut Numbers<Entry>,
     bfid: Bfid,
     group: GroupId,
@@ -105,7 +103,8 @@ pub(crate) fn store(
     ensures { IfOk result (λ _. entries.new ≡ adjust entries.old bfid.0 (stored_by group.0)) }
 {
     if let Some(entry) = entries.remove(bfid.0) {
-        entries.insert(bfid.0, entry.with_stored(group))?;
+        let stored = entry.with_stored(alloc, group)?;
+        entries.insert(bfid.0, stored)?;
     }
     Ok(())
 }
@@ -122,22 +121,14 @@ pub(crate) fn let_go(
     if is_named(inodes, bfid) {
         return Ok(());
     }
-    if let Some(
-        Entry {
-            len,
-            copies,
-            gone: _,
-            dropping,
-        },
-    ) = entries.remove(bfid.0)
-    {
+    if let Some(entry) = entries.remove(bfid.0) {
         entries.insert(
             bfid.0,
             Entry {
-                len,
-                copies,
+                len: entry.len,
+                copies: entry.copies,
                 gone: Some(time),
-                dropping,
+                dropping: entry.dropping,
             },
         )?;
     }
@@ -166,6 +157,7 @@ fn is_named(inodes: &Numbers<Inode>, bfid: Bfid) -> bool
 }
 
 // Asks whether an inode names the bitfile.
+#[derive(Drop)]
 struct Naming(Bfid);
 
 impl Test<Inode> for Naming {

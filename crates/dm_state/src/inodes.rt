@@ -128,9 +128,15 @@ impl Contents {
 pub(crate) fn end_put(inodes: &mut Numbers<Inode>, key: u128, dual: bool) -> Result<(), NoMemory>
     ensures { IfOk result (λ _. inodes.new ≡ adjust inodes.old key (reformed (put_ended_of dual))) }
 {
-    if let Some(Inode { change, contents }) = inodes.remove(key) {
-        let contents = contents.put_ended(dual);
-        inodes.insert(key, Inode { change, contents })?;
+    if let Some(inode) = inodes.remove(key) {
+        let contents = inode.contents.put_ended(dual);
+        inodes.insert(
+            key,
+            Inode {
+                change: inode.change,
+                contents,
+            },
+        )?;
     }
     Ok(())
 }
@@ -139,9 +145,15 @@ pub(crate) fn end_put(inodes: &mut Numbers<Inode>, key: u128, dual: bool) -> Res
 pub(crate) fn release(inodes: &mut Numbers<Inode>, key: u128) -> Result<(), NoMemory>
     ensures { IfOk result (λ _. inodes.new ≡ adjust inodes.old key (reformed released_of)) }
 {
-    if let Some(Inode { change, contents }) = inodes.remove(key) {
-        let contents = contents.released();
-        inodes.insert(key, Inode { change, contents })?;
+    if let Some(inode) = inodes.remove(key) {
+        let contents = inode.contents.released();
+        inodes.insert(
+            key,
+            Inode {
+                change: inode.change,
+                contents,
+            },
+        )?;
     }
     Ok(())
 }
@@ -150,9 +162,15 @@ pub(crate) fn release(inodes: &mut Numbers<Inode>, key: u128) -> Result<(), NoMe
 pub(crate) fn recall(inodes: &mut Numbers<Inode>, key: u128, bytes: Bytes) -> Result<(), NoMemory>
     ensures { IfOk result (λ _. inodes.new ≡ adjust inodes.old key (reformed (recalled_of bytes))) }
 {
-    if let Some(Inode { change, contents }) = inodes.remove(key) {
-        let contents = contents.recalled(bytes);
-        inodes.insert(key, Inode { change, contents })?;
+    if let Some(inode) = inodes.remove(key) {
+        let contents = inode.contents.recalled(bytes);
+        inodes.insert(
+            key,
+            Inode {
+                change: inode.change,
+                contents,
+            },
+        )?;
     }
     Ok(())
 }

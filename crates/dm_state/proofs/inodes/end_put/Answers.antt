@@ -6,10 +6,10 @@ use Rattle.dm_state.proofs.inodes.end_put.Goals as goal
 
 pub returns-in_ok-insert : goal.returns-in_ok-insert
 returns-in_ok-insert c =
-    put_back numbers c.args.inodes.now c.remove.new.self c.insert.new.self c.args.key (reformed (put_ended c.args.dual)) (record { change = c.in-Some.change; contents = c.in-Some.contents }) _
+    put_back numbers c.args.inodes.now c.remove.new.self c.insert.new.self c.args.key (reformed (put_ended c.args.dual)) c.in-Some.inode _
     c.in-Some.ensures.value
     c.remove.ensures.removed
-    (ap (λ x. record { change = c.in-Some.change; contents = x }) c.put_ended-contents.ensures)
+    (ap (λ x. record { change = c.in-Some.inode.change; contents = x }) c.put_ended-contents.ensures)
     c.in_ok-insert.ensures.ok
 
 pub returns-in_default : goal.returns-in_default
