@@ -1,12 +1,12 @@
 //! What a step does to a group's tables.
 
 ghost use Rattle.std.specs.Prelude.{◌≡◌, ◌<◌, ◌+◌, ◌^◌, IfOk};
-ghost use Rattle.std.specs.List.{All};
+ghost use Rattle.std.specs.FinMap as map;
 ghost use Rattle.dm_tables.specs.Rows.{adjust};
 ghost use Rattle.dm_state.specs.Group.{ChunksFit, EndsFit, empty_group, ends_raised, group_landed, new_volume, written_to};
 
 use crate::group::{BitfileRow, GroupRecord, GroupStep, GroupTables, VolumeRow};
-use dm_base::{Bytes, Chunk, NoMemory, Secs};
+use dm_base::{Bfid, Bytes, Chunk, Listed, NoMemory, Secs, Vsn};
 use dm_rules::FIRST_ZONE;
 use dm_tables::{Numbers, Texts};
 use std::alloc::Global;
@@ -31,17 +31,40 @@ impl GroupTables {
     {
         self.time = next.time;
         match &next.step {
-            GroupStep::Volume { vsn, slot, size } => {
-                let name = Bytes::from_vec(Vec::from_slice(alloc, &vsn.0)?);
-                self.volumes.insert(name, labelled(*slot, *size))?;
-            }
-            GroupStep::Commit { bfid, len, chunks } => {
-                raise_ends(&mut self.volumes, chunks.as_slice());
-                let chunks = chunks.copied(alloc)?;
-                self.bitfiles
-                    .insert(bfid.0, BitfileRow { len: *len, chunks })?;
-            }
+            GroupStep::Volume { vsn, slot, size } => self.volume_added(alloc, *vsn, *slot, *size),
+            GroupStep::Commit { bfid, len, chunks } => self.committed(alloc, *bfid, *len, chunks),
         }
+    }
+
+    // A volume is new.
+    fn volume_added(
+        mut self,
+        alloc: Global,
+        vsn: Vsn,
+        slot: u8,
+        size: u64,
+    ) -> Result<GroupTables, NoMemory>
+        ensures { IfOk result (λ t. t ≡ record self { volumes = map.insert self.volumes vsn.0 (new_volume slot size) }) }
+    {
+        let name = Bytes::from_vec(Vec::from_slice(alloc, &vsn.0)?);
+        self.volumes.insert(name, labelled(slot, size))?;
+        Ok(self)
+    }
+
+    // The bitfile stands on the volumes in these chunks.
+    fn committed(
+        mut self,
+        alloc: Global,
+        bfid: Bfid,
+        len: u64,
+        chunks: &Listed<Chunk>,
+    ) -> Result<GroupTables, NoMemory>
+        requires { EndsFit chunks.now }
+        ensures { IfOk result (λ t. t ≡ record self { volumes = ends_raised chunks.now self.volumes; bitfiles = map.insert self.bitfiles bfid.0 (record { len = len; chunks = chunks.now }) }) }
+    {
+        raise_ends(&mut self.volumes, chunks.as_slice());
+        let chunks = chunks.copied(alloc)?;
+        self.bitfiles.insert(bfid.0, BitfileRow { len, chunks })?;
         Ok(self)
     }
 }
