@@ -2,3 +2,4 @@ pub mod Changes
 pub mod Lists
 pub mod Ends
 pub mod Freed
+pub mod Fits

@@ -5,6 +5,7 @@
 //! joint machine cite these definitions.
 #![tactic(auto)]
 
+mod copies;
 mod daemon;
 mod daemon_steps;
 mod entries;
@@ -14,3 +15,6 @@ mod inodes;
 
 pub use daemon::{AskedCopy, Contents, DaemonRecord, DaemonStep, DaemonTables, Entry, Inode};
 pub use group::{BitfileRow, GroupRecord, GroupStep, GroupTables, VolumeRow};
+
+#[cfg(test)]
+mod tests;
