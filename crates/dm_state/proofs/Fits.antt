@@ -1,5 +1,5 @@
 -- Where a step may be done, the counter can rise.
-use Rattle.std.proofs.Common.{◌<◌, ◌≤◌, arith}
+use Rattle.std.proofs.Common.{◌≤◌, arith}
 use Rattle.dm_state.specs.declared.daemon.DaemonTables.{DaemonTables}
 use Rattle.dm_state.specs.declared.daemon.DaemonStep.{DaemonStep}
 use Rattle.dm_state.specs.declared.daemon.DaemonStep.TheVariants.{Write, Remove, BeginPut, Stored, EndPut, Release, Taken}
@@ -14,13 +14,3 @@ step_counts t (Stored b group) may = tt
 step_counts t (EndPut n b dual) may = tt
 step_counts t (Release path) may = tt
 step_counts t (Taken n bytes) may = tt
-
--- or where it is far from the last number
-pub counts_below : (t : DaemonTables) (s : DaemonStep) → t.counter < 18446744073709551615 → StepCounts t s
-counts_below t (Write path change bytes) low = tt
-counts_below t (Remove path change) low = tt
-counts_below t (BeginPut path b groups) low = low
-counts_below t (Stored b group) low = tt
-counts_below t (EndPut n b dual) low = tt
-counts_below t (Release path) low = tt
-counts_below t (Taken n bytes) low = tt

@@ -15,6 +15,3 @@ mod inodes;
 
 pub use daemon::{AskedCopy, Contents, DaemonRecord, DaemonStep, DaemonTables, Entry, Inode};
 pub use group::{BitfileRow, GroupRecord, GroupStep, GroupTables, VolumeRow};
-
-#[cfg(test)]
-mod tests;
