@@ -1,5 +1,5 @@
 -- A row that is taken out, changed and put back is the row changed where it is.
-use Rattle.std.proofs.Common.{◌≡◌, Bool, true, false, cond, Option, None, Some, OnSome, refl, sym, ap, subst, ◌∙◌, Ordering}
+use Rattle.std.proofs.Common.{◌≡◌, Bool, true, false, cond, Option, None, Some, OnSome, sym, ap, subst, ◌∙◌, Ordering}
 use Rattle.std.specs.FinMap.{FinMap, get, insert, remove}
 use Rattle.dm_tables.specs.Rows.{adjust}
 use Rattle.dm_tables.proofs.Orders.{KeyOrder}

@@ -1,4 +1,3 @@
-use Rattle.std.proofs.Common.{refl}
 use Rattle.dm_state.proofs.Ends.{raised_more, raised_all}
 use Rattle.dm_state.proofs.group_steps.raise_ends.Goals as goal
 

@@ -1,4 +1,4 @@
-use Rattle.std.proofs.Common.{List, map, refl, ap, ◌∙◌}
+use Rattle.std.proofs.Common.{List, map, ap, ◌∙◌}
 use Rattle.std.proofs.lemmas.List.{drop_more}
 use Rattle.dm_state.specs.declared.daemon.AskedCopy.{AskedCopy}
 use Rattle.dm_state.specs.declared.daemon.Entry.{Entry}
