@@ -2,9 +2,10 @@
 
 ghost use Rattle.std.specs.Prelude.{◌≡◌, ◌^◌, ◌<◌, ℕ, is_some, IsTrue, ◌↔◌, IfNone, OnOk, OnErr, OnSome};
 ghost use Rattle.std.specs.List.{All};
-ghost use Rattle.std.specs.Option.{option_copied};
+ghost use Rattle.std.specs.Option.{option_copied, option_map};
 ghost use Rattle.std.specs.FinMap as map;
 ghost use Rattle.std.specs.Map.Iter.{ShowsInOrder, deref_pair};
+ghost use Rattle.dm_tables.specs.Rows.{row_after};
 
 use dm_base::NoMemory;
 use std::alloc::Global;
@@ -12,6 +13,7 @@ use std::collections::BTreeMap;
 use std::collections::btree_map::Iter;
 use std::marker::Model;
 use std::mem;
+use std::ops::Bound;
 
 /// Rows by their numbers.
 #[derive(Drop)]
@@ -113,5 +115,20 @@ impl<V> Numbers<V> {
         ensures small { map.len self.now < 2 ^ 63 }
     {
         self.rows.iter()
+    }
+
+    /// The first row past this number, or the first of all; none where no row is left. So a loop goes
+    /// over the rows and changes the table on its way.
+    pub fn first_after(&self, key: Option<u128>) -> Option<(u128, &V)>
+        ensures { option_map (λ p. (p.0, p.1.now)) result ≡ row_after self.now key }
+    {
+        let start = match key {
+            Some(key) => Bound::Excluded(key),
+            None => Bound::Unbounded,
+        };
+        match self.rows.range((start, Bound::Unbounded)).next() {
+            Some((key, row)) => Some((*key, row)),
+            None => None,
+        }
     }
 }
