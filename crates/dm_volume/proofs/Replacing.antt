@@ -8,17 +8,21 @@ use Rattle.dm_host.proofs.Moments.{weaker}
 use Rattle.dm_host.proofs.Outside.{torn_below, torn_above, part-at}
 use Rattle.dm_rules.specs.Known.{Known, written, forgotten, agrees, Holds}
 use Rattle.dm_rules.proofs.Knowledge.{KeepsOutside, holds-forgotten, holds-written, holds-agrees}
-use Rattle.dm_volume.specs.Image.{Replaces}
+use Rattle.dm_volume.specs.Volume.{Replaces}
 
 pub so_ok : {T E P Q : Type 0} (r : Result T E) → OnOk r P → (P → Q) → OnOk r Q
 so_ok (Ok x) p so = so p
 so_ok (Err e) p so = tt
 
+pub so_err : {T E P Q : Type 0} (r : Result T E) → OnErr r P → (P → Q) → OnErr r Q
+so_err (Ok x) p so = tt
+so_err (Err e) p so = so p
+
 always_err : {T E P : Type 0} (r : Result T E) → P → OnErr r P
 always_err (Ok x) p = tt
 always_err (Err e) p = p
 
-both_ok : {T E P Q R : Type 0} (r : Result T E) → OnOk r P → OnOk r Q → (P → Q → R) → OnOk r R
+pub both_ok : {T E P Q R : Type 0} (r : Result T E) → OnOk r P → OnOk r Q → (P → Q → R) → OnOk r R
 both_ok (Ok x) p q so = so p q
 both_ok (Err e) p q so = tt
 

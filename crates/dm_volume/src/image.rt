@@ -4,7 +4,7 @@ ghost use Rattle.dm_host.specs.Count.{HasCause};
 ghost use Rattle.dm_host.specs.Disk.{part, Same};
 ghost use Rattle.dm_host.specs.Works.{Works, File, Follows};
 ghost use Rattle.dm_rules.specs.Known.{Known, agrees, Holds};
-ghost use Rattle.dm_volume.specs.Image.{Replaces};
+ghost use Rattle.dm_volume.specs.Volume.{Replaces};
 
 use dm_host::{Bay, Failed, write_synced};
 

@@ -5,3 +5,6 @@ mod image;
 mod volume;
 
 pub use volume::Volume;
+
+#[cfg(test)]
+mod tests;

@@ -4,7 +4,7 @@ ghost use Rattle.dm_host.specs.Count.{HasCause};
 ghost use Rattle.dm_host.specs.Disk.{part, Same};
 ghost use Rattle.dm_host.specs.Works.{Works, File, Follows};
 ghost use Rattle.dm_rules.specs.Known.{Known, agrees, Holds};
-ghost use Rattle.dm_volume.specs.Image.{Replaces, IsInZones, IsReadable};
+ghost use Rattle.dm_volume.specs.Volume.{Replaces, IsInZones, IsReadable};
 
 use crate::image::{fetch, replace};
 use dm_base::{GroupId, Mount, Vsn};
@@ -22,9 +22,9 @@ pub struct Volume {
 
 impl Model for Volume {
     ghost use Rattle.std.specs.Prelude.{◌<◌, ◌≤◌};
-    ghost use Rattle.dm_volume.specs.Image.{Image};
+    ghost use Rattle.dm_volume.specs.Volume.{Descriptor};
 
-    ghost Value = { Image };
+    ghost Value = { Descriptor };
 
     ghost view = { λ v. record { vsn = v.vsn; group = v.group; file = v.file; size = v.size } };
 
@@ -44,6 +44,20 @@ impl Volume {
             file,
             size,
         }
+    }
+
+    pub fn vsn(&self) -> Vsn
+        ensures { result ≡ self.now.vsn }
+    {
+        self.vsn
+    }
+
+    /// The size in bytes that its label gives, where the last zone ends at the latest.
+    pub fn size(&self) -> u64
+        ensures size { result ≡ self.now.size }
+        ensures range { (256 ≤ result) × (result ≤ 67108864) }
+    {
+        self.size
     }
 
     /// Writes a zone at a place, and syncs the image. After an error the range of the zone may hold any bytes.

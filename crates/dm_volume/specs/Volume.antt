@@ -1,4 +1,4 @@
--- The image of a volume: a file of a bay.
+-- A volume whose image is a file of a bay, and what a write makes of that file.
 use Rattle.std.specs.Prelude.{◌≡◌, ◌⊎◌, ℕ, ◌+◌, ◌≤◌, List, length, Result, IsTrue, OnOk, OnErr}
 use Rattle.dm_base.specs.declared.serial.Vsn.{Vsn}
 use Rattle.dm_base.specs.declared.identifier.GroupId.{GroupId}
@@ -9,7 +9,7 @@ use Rattle.dm_rules.specs.Known.{Known, written, forgotten, Holds}
 use Rattle.dm_rules.specs.Label.{first_zone}
 
 -- a volume: its serial number, its group, the file that is its image, and the size that its label gives
-pub record Image : Type 0 where
+pub record Descriptor : Type 0 where
   pub vsn : Vsn
   pub group : GroupId
   pub file : ℕ
@@ -41,3 +41,8 @@ pub record Replaces {T : Type 0} (file place : ℕ) (bytes : List ℕ) (old new 
   -- a crash at any moment since may leave any bytes in the range, and what was known elsewhere
   pub any_moment : (known : Known) → Settled old file (Holds known) → Works (File file) old new (λ x. Holds (forgotten place (length bytes) known) (x file))
   pub works : Works (File file) old new (Follows (Torn place (length bytes)) file old)
+
+-- The known bytes stand in a file: in what a read gives of it, and in each content that a crash leaves of it.
+pub record Keeps (d : Disk) (file : ℕ) (known : Known) : Type 0 where
+  pub seen : Holds known (d.seen file)
+  pub left : Settled d file (Holds known)
