@@ -8,7 +8,8 @@ use Rattle.dm_base.specs.declared.reply.FileState.{FileState}
 use Rattle.dm_base.specs.declared.reply.FileState.TheVariants as found
 use Rattle.dm_base.specs.declared.identifier.Bfid.{Bfid}
 use Rattle.dm_base.specs.declared.identifier.GroupId.{GroupId}
-use Rattle.dm_zone.specs.Room.{room}
+use Rattle.dm_rules.specs.Room.{room}
+use Rattle.dm_rules.specs.Zone.{chunk_header}
 use Rattle.dm_proto.specs.declared.heard.Heard.{Heard}
 use Rattle.dm_proto.specs.declared.heard.Heard.TheVariants as heard
 use Rattle.dm_site.specs.declared.file.File.{File}
@@ -86,7 +87,7 @@ pub record IsStored (old : State) (path : List ℕ) (faults : ℕ) (bfid : Bfid)
   pub bytes : List ℕ
   pub change : ℕ
   pub may : MayBePut old path bytes change
-  pub fits : length bytes ≤ room volume_size old.tip chunk_size
+  pub fits : length bytes ≤ room chunk_header volume_size old.tip chunk_size
   pub no_fault : faults ≡ 0
   pub bfid_is : bfid ≡ bfid_of old.next_counter
   pub sets : Sets old.file_at new.file_at path (record { change = change; form = form.Offline (length bytes) (bfid_of old.next_counter) (old.tip + zone_front) })
@@ -98,7 +99,7 @@ pub record StoreFailed (old : State) (path : List ℕ) (faults : ℕ) (group : G
   pub change : ℕ
   pub may : MayBePut old path bytes change
   pub some : 0 < length bytes
-  pub fits : length bytes ≤ room volume_size old.tip chunk_size
+  pub fits : length bytes ≤ room chunk_header volume_size old.tip chunk_size
   pub fault : 0 < faults
   pub group_is : group ≡ group_of
   pub files : new.file_at ≡ old.file_at
@@ -109,7 +110,7 @@ pub record LacksRoom (old : State) (path : List ℕ) (faults have need : ℕ) (n
   pub bytes : List ℕ
   pub change : ℕ
   pub may : MayBePut old path bytes change
-  pub have_is : have ≡ room volume_size old.tip chunk_size
+  pub have_is : have ≡ room chunk_header volume_size old.tip chunk_size
   pub need_is : need ≡ length bytes
   pub lacks : have < need
   pub no_fault : faults ≡ 0
@@ -205,7 +206,7 @@ pub record CanStore (tip : ℕ) (bytes zone : List ℕ) (len : ℕ) (bfid : Bfid
   pub is_zone : IsZone zone bytes
   pub len_is : len ≡ length bytes
   pub bfid_is : bfid ≡ bfid_of counter
-  pub fits : length bytes ≤ room volume_size tip chunk_size
+  pub fits : length bytes ≤ room chunk_header volume_size tip chunk_size
 
 -- A step: what is heard, the faults that the device reported meanwhile, the reply, and what it leaves.
 abbrev pub Step : State → Heard → ℕ → Reply → State → Type 0

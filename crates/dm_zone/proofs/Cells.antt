@@ -1,7 +1,7 @@
 -- The label's cells.
 use Rattle.std.proofs.Common.{◌≡◌, ℕ, ◌+◌, List, [], ◌∷◌, ◌++◌, length, take, drop, replicate, arith, codes}
 use Rattle.std.specs.Int.{w64, to_be_bytes}
-use Rattle.dm_zone.specs.Label.{label}
+use Rattle.dm_rules.specs.Label.{label}
 
 -- what the five writes leave
 pub laid : (vsn a b c d e : List ℕ) (group epoch size : ℕ) → length vsn ≡ 6 → a ≡ codes "DMVOLIM1" ++ replicate 56 0 → b ≡ take 8 a ++ vsn ++ drop (8 + length vsn) a → c ≡ take 14 b ++ (group ∷ 1 ∷ []) ++ drop 16 b → d ≡ take 16 c ++ to_be_bytes w64 epoch ++ drop 24 c → e ≡ take 24 d ++ to_be_bytes w64 size ++ drop 32 d → e ≡ label vsn group epoch size

@@ -1,10 +1,10 @@
 -- Bytes cut into chunks.
-use Rattle.std.proofs.Common.{◌≡◌, ℕ, zero, suc, ◌+◌, ◌*◌, ◌<◌, ◌≤◌, List, ◌++◌, length, take, drop, refl, ap, ◌∙◌, sym, arith, append_assoc, length-append, length-take, length-drop}
+use Rattle.std.proofs.Common.{◌≡◌, ℕ, zero, suc, ◌+◌, ◌*◌, ◌<◌, ◌≤◌, List, [], ◌++◌, length, take, drop, refl, ap, ◌∙◌, sym, arith, append_assoc, length-append, length-take, length-drop}
 use Rattle.std.specs.Int.{div_ceil}
 use Rattle.std.specs.List.{flat_map}
 use Rattle.std.proofs.lemmas.List.{append-nil, take_all, drop_at}
 use Rattle.std.proofs.lemmas.Grind.{div_ceil_times}
-use Rattle.dm_zone.specs.Zone.{chunk_count, chunk_front, chunk_text, cut, cut_into, zone, zone_front, zone_length}
+use Rattle.dm_rules.specs.Zone.{chunk_count, chunk_front, chunk_text, cut, cut_into, unsealed, zone, zone_front, zone_length}
 
 pub length-chunk_front : (bfid offset count total : ℕ) → length (chunk_front bfid offset count total) ≡ 48
 unfolding chunk_front
@@ -14,37 +14,41 @@ pub length-zone_front : (epoch count whole : ℕ) → length (zone_front epoch c
 unfolding zone_front
 length-zone_front epoch count whole = refl
 
+-- an unsealed chunk is its header and its bytes
+pub unsealed_text : (bfid total offset : ℕ) (bytes : List ℕ) → chunk_text (record { bfid = bfid; total = total; offset = offset; seal = []; bytes = bytes }) ≡ chunk_front bfid offset (length bytes) total ++ bytes
+unsealed_text bfid total offset bytes = ap (λ xs. xs ++ bytes) (append-nil (chunk_front bfid offset (length bytes) total))
+
 -- one chunk more is written
-pub cut_more : (out rest all : List ℕ) (bfid total place chunk n : ℕ) → out ++ flat_map chunk_text (cut_into (suc n) bfid total place rest chunk) ≡ all → (out ++ chunk_text (record { bfid = bfid; total = total; offset = place; bytes = take chunk rest })) ++ flat_map chunk_text (cut_into n bfid total (place + length (take chunk rest)) (drop chunk rest) chunk) ≡ all
+pub cut_more : (out rest all : List ℕ) (bfid total place chunk n : ℕ) → out ++ flat_map chunk_text (cut_into unsealed (suc n) bfid total place rest chunk) ≡ all → (out ++ chunk_text (record { bfid = bfid; total = total; offset = place; seal = []; bytes = take chunk rest })) ++ flat_map chunk_text (cut_into unsealed n bfid total (place + length (take chunk rest)) (drop chunk rest) chunk) ≡ all
 unfolding cut_into
 cut_more out rest all bfid total place chunk n h =
     let front = take chunk rest in
-    let first = chunk_text (record { bfid = bfid; total = total; offset = place; bytes = front }) in
-    append_assoc out first (flat_map chunk_text (cut_into n bfid total (place + length front) (drop chunk rest) chunk)) ∙ h
+    let first = chunk_text (record { bfid = bfid; total = total; offset = place; seal = []; bytes = front }) in
+    append_assoc out first (flat_map chunk_text (cut_into unsealed n bfid total (place + length front) (drop chunk rest) chunk)) ∙ h
 
 -- the same with names for what the code has
-pub cut_step : (out written front back rest all : List ℕ) (bfid total place chunk m n : ℕ) → m ≡ suc n → front ≡ take chunk rest → back ≡ drop chunk rest → written ≡ out ++ chunk_text (record { bfid = bfid; total = total; offset = place; bytes = front }) → out ++ flat_map chunk_text (cut_into m bfid total place rest chunk) ≡ all → written ++ flat_map chunk_text (cut_into n bfid total (place + length front) back chunk) ≡ all
+pub cut_step : (out written front back rest all : List ℕ) (bfid total place chunk m n : ℕ) → m ≡ suc n → front ≡ take chunk rest → back ≡ drop chunk rest → written ≡ out ++ chunk_text (record { bfid = bfid; total = total; offset = place; seal = []; bytes = front }) → out ++ flat_map chunk_text (cut_into unsealed m bfid total place rest chunk) ≡ all → written ++ flat_map chunk_text (cut_into unsealed n bfid total (place + length front) back chunk) ≡ all
 cut_step out written front back rest all bfid total place chunk m n more is_front is_back is_written h = rw (is_written, is_front, is_back) (cut_more out rest all bfid total place chunk n (rw more at h))
 
 -- no chunk is left
-pub cut_none : (out rest all : List ℕ) (bfid total place chunk n : ℕ) → n ≡ 0 → out ++ flat_map chunk_text (cut_into n bfid total place rest chunk) ≡ all → out ≡ all
+pub cut_none : (out rest all : List ℕ) (bfid total place chunk n : ℕ) → n ≡ 0 → out ++ flat_map chunk_text (cut_into unsealed n bfid total place rest chunk) ≡ all → out ≡ all
 unfolding cut_into
 cut_none out rest all bfid total place chunk zero z h = sym (append-nil out) ∙ h
 cut_none out rest all bfid total place chunk (suc n) z h = absurd (omega arith)
 
-pub length-cut_into : (count bfid total offset : ℕ) (bytes : List ℕ) (chunk : ℕ) → length (cut_into count bfid total offset bytes chunk) ≡ count
+pub length-cut_into : (count bfid total offset : ℕ) (bytes : List ℕ) (chunk : ℕ) → length (cut_into unsealed count bfid total offset bytes chunk) ≡ count
 unfolding cut_into
 length-cut_into zero bfid total offset bytes chunk = refl
 length-cut_into (suc count) bfid total offset bytes chunk = ap suc (length-cut_into count bfid total _ _ chunk)
 
 -- the chunks have their headers and all the bytes
-pub length-chunks : (count bfid total offset : ℕ) (bytes : List ℕ) (chunk : ℕ) → length bytes ≤ count * chunk → length (flat_map chunk_text (cut_into count bfid total offset bytes chunk)) ≡ 48 * count + length bytes
+pub length-chunks : (count bfid total offset : ℕ) (bytes : List ℕ) (chunk : ℕ) → length bytes ≤ count * chunk → length (flat_map chunk_text (cut_into unsealed count bfid total offset bytes chunk)) ≡ 48 * count + length bytes
 unfolding cut_into
 length-chunks zero bfid total offset bytes chunk h = omega arith
 length-chunks (suc count) bfid total offset bytes chunk h =
     let front = take chunk bytes in
     let rest = drop chunk bytes in
-    let others = cut_into count bfid total (offset + length front) rest chunk in
+    let others = cut_into unsealed count bfid total (offset + length front) rest chunk in
     let split : length front + length rest ≡ length bytes = omega (arith, length-take chunk bytes, length-drop chunk bytes) in
     let fewer : length rest ≤ count * chunk = omega (arith, length-drop chunk bytes, h) in
     let later = length-chunks count bfid total (offset + length front) rest chunk fewer in
@@ -53,8 +57,9 @@ length-chunks (suc count) bfid total offset bytes chunk h =
       split,
       later,
       length-chunk_front bfid offset (length front) total,
-      length-append (chunk_front bfid offset (length front) total) front,
-      length-append (chunk_front bfid offset (length front) total ++ front) (flat_map chunk_text others),
+      length-append (chunk_front bfid offset (length front) total) [],
+      length-append (chunk_front bfid offset (length front) total ++ []) front,
+      length-append (chunk_front bfid offset (length front) total ++ [] ++ front) (flat_map chunk_text others),
     )
 
 -- bytes that fit one chunk are cut into one
@@ -70,14 +75,14 @@ one_chunk n chunk some fits =
     one_of (suc (suc d)) n chunk some fits low high = absurd (omega (arith, low, high))
 
 -- the bytes stand behind both headers
-pub behind_headers : (epoch count whole bfid total offset : ℕ) (bytes : List ℕ) (chunk n : ℕ) → n ≡ 1 → length bytes ≤ chunk → drop 80 (zone_front epoch count whole ++ flat_map chunk_text (cut_into n bfid total offset bytes chunk)) ≡ bytes
+pub behind_headers : (epoch count whole bfid total offset : ℕ) (bytes : List ℕ) (chunk n : ℕ) → n ≡ 1 → length bytes ≤ chunk → drop 80 (zone_front epoch count whole ++ flat_map chunk_text (cut_into unsealed n bfid total offset bytes chunk)) ≡ bytes
 unfolding cut_into
 behind_headers epoch count whole bfid total offset bytes chunk (suc zero) one fits =
     let front = take chunk bytes in
     let head = zone_front epoch count whole in
     let first = chunk_front bfid offset (length front) total in
     let whole_front : front ≡ bytes = take_all chunk bytes fits in
-    let joined : head ++ flat_map chunk_text (cut_into 1 bfid total offset bytes chunk) ≡ (head ++ first) ++ front = ap (λ xs. head ++ xs) (append-nil (first ++ front)) ∙ sym (append_assoc head first front) in
+    let joined : head ++ flat_map chunk_text (cut_into unsealed 1 bfid total offset bytes chunk) ≡ (head ++ first) ++ front = ap (λ xs. head ++ xs) (append-nil (first ++ [] ++ front) ∙ unsealed_text bfid total offset front) ∙ sym (append_assoc head first front) in
     let long : length (head ++ first) ≡ 80 = omega (arith, length-append head first, length-zone_front epoch count whole, length-chunk_front bfid offset (length front) total) in
     ap (drop 80) joined ∙ drop_at (head ++ first) front 80 long ∙ whole_front
 behind_headers epoch count whole bfid total offset bytes chunk zero one fits = absurd (omega arith)
@@ -88,18 +93,18 @@ pub cut_holds : (n chunk : ℕ) → 0 < chunk → n ≤ chunk_count chunk n * ch
 cut_holds n chunk some = (div_ceil_times n chunk some).0
 
 -- a header with the numbers of the cut begins its zone
-pub zone_is : (epoch bfid total offset : ℕ) (bytes : List ℕ) (chunk : ℕ) → 0 < chunk → zone_front epoch (chunk_count chunk (length bytes)) (zone_length chunk (length bytes)) ++ flat_map chunk_text (cut bfid total offset bytes chunk) ≡ zone epoch (cut bfid total offset bytes chunk)
+pub zone_is : (epoch bfid total offset : ℕ) (bytes : List ℕ) (chunk : ℕ) → 0 < chunk → zone_front epoch (chunk_count chunk (length bytes)) (zone_length 48 chunk (length bytes)) ++ flat_map chunk_text (cut unsealed bfid total offset bytes chunk) ≡ zone epoch (cut unsealed bfid total offset bytes chunk)
 zone_is epoch bfid total offset bytes chunk some =
     let count = chunk_count chunk (length bytes) in
     let chunks = length-chunks count bfid total offset bytes chunk (cut_holds (length bytes) chunk some) in
-    let whole : 32 + length (flat_map chunk_text (cut bfid total offset bytes chunk)) ≡ zone_length chunk (length bytes) = omega (arith, chunks) in
+    let whole : 32 + length (flat_map chunk_text (cut unsealed bfid total offset bytes chunk)) ≡ zone_length 48 chunk (length bytes) = omega (arith, chunks) in
     rw (whole, length-cut_into count bfid total offset bytes chunk)
 
-pub length-zone : (epoch bfid total offset : ℕ) (bytes : List ℕ) (chunk n whole : ℕ) → 0 < chunk → length (zone_front epoch n whole ++ flat_map chunk_text (cut bfid total offset bytes chunk)) ≡ zone_length chunk (length bytes)
+pub length-zone : (epoch bfid total offset : ℕ) (bytes : List ℕ) (chunk n whole : ℕ) → 0 < chunk → length (zone_front epoch n whole ++ flat_map chunk_text (cut unsealed bfid total offset bytes chunk)) ≡ zone_length 48 chunk (length bytes)
 length-zone epoch bfid total offset bytes chunk n whole some =
     let chunks = length-chunks (chunk_count chunk (length bytes)) bfid total offset bytes chunk (cut_holds (length bytes) chunk some) in
-    omega (arith, chunks, length-zone_front epoch n whole, length-append (zone_front epoch n whole) (flat_map chunk_text (cut bfid total offset bytes chunk)))
+    omega (arith, chunks, length-zone_front epoch n whole, length-append (zone_front epoch n whole) (flat_map chunk_text (cut unsealed bfid total offset bytes chunk)))
 
 -- a zone of one chunk has both headers and its bytes
-pub one_chunk_length : (n chunk : ℕ) → 0 < n → n ≤ chunk → zone_length chunk n ≡ 80 + n
+pub one_chunk_length : (n chunk : ℕ) → 0 < n → n ≤ chunk → zone_length 48 chunk n ≡ 80 + n
 one_chunk_length n chunk some fits = omega (arith, one_chunk n chunk some fits)

@@ -1,3 +1,4 @@
 pub mod Cuts
 pub mod RoomLemmas
 pub mod Cells
+pub mod Wide

@@ -1,7 +1,7 @@
 //! The label of a volume.
 
 ghost use Rattle.std.specs.Prelude.{◌≡◌, ◌≤◌, ◌+◌, ◌++◌, drop, length, take};
-ghost use Rattle.dm_zone.specs.Label.{label as label_of};
+ghost use Rattle.dm_rules.specs.Label.{label as label_of};
 
 use crate::number::eight_bytes;
 use dm_base::GroupId;

@@ -6,6 +6,7 @@ mod number;
 mod rooms;
 mod zone;
 
+pub use dm_rules::{CHUNK_HEADER, FIRST_ZONE, ZONE_HEADER};
 pub use labels::label;
 pub use rooms::room;
 pub use zone::encode_zone;

@@ -2,17 +2,12 @@
 
 ghost use Rattle.std.specs.Prelude.{◌≡◌, ◌<◌, ◌≤◌, ◌+◌, ◌^◌, ◌++◌, drop, length, IfOk, OnOk};
 ghost use Rattle.std.specs.List.{flat_map};
-ghost use Rattle.dm_zone.specs.Zone.{Chunk, chunk_count, chunk_front, chunk_text, cut, cut_into, zone, zone_front, zone_length};
+ghost use Rattle.dm_rules.specs.Zone.{chunk_count, chunk_front, chunk_header, chunk_text, cut, cut_into, unsealed, zone, zone_front, zone_length};
 
 use crate::number::{eight_bytes, four_bytes, sixteen_bytes};
 use dm_base::{Bfid, NoMemory};
+use dm_rules::{CHUNK_HEADER, ZONE_HEADER};
 use std::alloc::Global;
-
-/// The length of a zone's header.
-pub const ZONE_HEADER: u64 = 32;
-
-/// The length of a chunk's header.
-pub const CHUNK_HEADER: u64 = 48;
 
 /// The zone that holds the bytes of a bitfile from `offset` on, in chunks of `chunk` bytes.
 pub fn encode_zone(
@@ -28,8 +23,8 @@ pub fn encode_zone(
     requires chunk { 0 < chunk }
     requires within { offset + length bytes.now ≤ total }
     requires count { chunk_count chunk (length bytes.now) < 2 ^ 32 }
-    ensures spelled { IfOk result (λ v. v.items ≡ zone epoch (cut bfid.0 total offset bytes.now chunk)) }
-    ensures long { IfOk result (λ v. length v.items ≡ zone_length chunk (length bytes.now)) }
+    ensures spelled { IfOk result (λ v. v.items ≡ zone epoch (cut unsealed bfid.0 total offset bytes.now chunk)) }
+    ensures long { IfOk result (λ v. length v.items ≡ zone_length chunk_header chunk (length bytes.now)) }
     ensures one { length bytes.now ≤ chunk → IfOk result (λ v. (length v.items ≡ 80 + length bytes.now) × (drop 80 v.items ≡ bytes.now)) }
 {
     let count = (bytes.len() as u64).div_ceil(chunk);
@@ -44,7 +39,7 @@ pub fn encode_zone(
     Ok(out)
 }
 
-#[tactic(auto, unfolding(crate::specs::Zone::zone_front))]
+#[tactic(auto, unfolding(dm_rules::specs::Zone::zone_front))]
 fn put_front(out: &mut Vec<u8>, epoch: u64, count: u32, whole: u64) -> Result<(), NoMemory>
     ensures { OnOk result (out.new.items ≡ out.old.items ++ zone_front epoch count whole) }
 {
@@ -68,7 +63,7 @@ fn put_chunks(
 ) -> Result<(), NoMemory>
     requires { offset + length bytes.now < 2 ^ 64 }
     ensures { OnOk result (
-        out.new.items ≡ out.old.items ++ flat_map chunk_text (cut_into count bfid.0 total offset bytes.now chunk)
+        out.new.items ≡ out.old.items ++ flat_map chunk_text (cut_into unsealed count bfid.0 total offset bytes.now chunk)
         ) }
 {
     let mut rest = bytes;
@@ -90,7 +85,7 @@ fn put_chunk(
     bytes: &[u8],
 ) -> Result<(), NoMemory>
     ensures { OnOk result (
-        out.new.items ≡ out.old.items ++ chunk_text (record { bfid = bfid.0; total = total; offset = offset; bytes = bytes.now })
+        out.new.items ≡ out.old.items ++ chunk_text (record { bfid = bfid.0; total = total; offset = offset; seal = unsealed bytes.now; bytes = bytes.now })
         ) }
 {
     put_chunk_front(out, bfid, total, offset, bytes.len() as u64)?;
@@ -98,7 +93,7 @@ fn put_chunk(
     Ok(())
 }
 
-#[tactic(auto, unfolding(crate::specs::Zone::chunk_front))]
+#[tactic(auto, unfolding(dm_rules::specs::Zone::chunk_front))]
 fn put_chunk_front(
     out: &mut Vec<u8>,
     bfid: Bfid,

@@ -1,10 +1,10 @@
 use Rattle.std.proofs.Common.{◌-◌, ◌≡◌, sym, ◌∙◌, ap, arith}
-use Rattle.dm_zone.specs.Room.{held}
+use Rattle.dm_rules.specs.Room.{held}
 use Rattle.dm_zone.proofs.RoomLemmas.{room_none, room_some, room_fits, room_longest}
 use Rattle.dm_zone.proofs.rooms.room.Goals as goal
 
-held_is : (c : goal.After-held) → c.held.result ≡ held (c.args.size - c.args.tip - 32) c.args.chunk
-held_is c = c.held.ensures ∙ ap (λ left. held (left - 32) c.args.chunk) c.saturating_sub-left.ensures
+held_is : (c : goal.After-held) → c.held.result ≡ held 48 (c.args.size - c.args.tip - 32) c.args.chunk
+held_is c = c.held.ensures ∙ ap (λ left. held 48 (left - 32) c.args.chunk) c.saturating_sub-left.ensures
 
 pub returns-then-left-lt-ZONE_HEADER-clause-rule :
     goal.returns-then-left-lt-ZONE_HEADER-clause-rule

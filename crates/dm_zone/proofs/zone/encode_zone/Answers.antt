@@ -1,14 +1,14 @@
 use Rattle.std.proofs.Common.{◌≡◌, ℕ, ◌+◌, ◌*◌, ◌++◌, ◌∙◌, ap, drop, length}
 use Rattle.std.specs.List.{flat_map}
-use Rattle.dm_zone.specs.Zone.{chunk_count, chunk_text, cut, cut_into, zone_front, zone_length}
+use Rattle.dm_rules.specs.Zone.{chunk_count, chunk_text, cut, cut_into, unsealed, zone_front, zone_length}
 use Rattle.dm_zone.proofs.Cuts.{behind_headers, length-zone, one_chunk, one_chunk_length, zone_is}
 use Rattle.dm_zone.proofs.zone.encode_zone.Goals as goal
 
 -- what was written
-written : (c : goal.In_ok-put_chunks) → c.put_chunks.new.out.items ≡ zone_front c.args.epoch (chunk_count c.args.chunk (length c.args.bytes.now)) (zone_length c.args.chunk (length c.args.bytes.now)) ++ flat_map chunk_text (cut c.args.bfid.0 c.args.total c.args.offset c.args.bytes.now c.args.chunk)
+written : (c : goal.In_ok-put_chunks) → c.put_chunks.new.out.items ≡ zone_front c.args.epoch (chunk_count c.args.chunk (length c.args.bytes.now)) (zone_length 48 c.args.chunk (length c.args.bytes.now)) ++ flat_map chunk_text (cut unsealed c.args.bfid.0 c.args.total c.args.offset c.args.bytes.now c.args.chunk)
 written c =
     let bytes = c.args.bytes.now in
-    let chunks = λ (n : ℕ). flat_map chunk_text (cut_into n c.args.bfid.0 c.args.total c.args.offset bytes c.args.chunk) in
+    let chunks = λ (n : ℕ). flat_map chunk_text (cut_into unsealed n c.args.bfid.0 c.args.total c.args.offset bytes c.args.chunk) in
     let front = λ (n : ℕ). zone_front c.args.epoch n (32 + 48 * n + length bytes) in
     let count = c.div_ceil-count.result in
     c.in_ok-put_chunks.ensures

@@ -1,5 +1,5 @@
 use Rattle.std.proofs.Common.{append_assoc}
-use Rattle.dm_zone.specs.Zone.{chunk_front}
+use Rattle.dm_rules.specs.Zone.{chunk_front}
 use Rattle.dm_zone.proofs.zone.put_chunk_front.Goals as goal
 
 pub returns : goal.returns

@@ -1,9 +1,0 @@
--- The label at the front of a volume.
-use Rattle.std.specs.Prelude.{ℕ, List, [], ◌∷◌, ◌++◌, codes, replicate}
-use Rattle.std.specs.Int.{w64, to_be_bytes}
-
--- the 64 bytes: `DMVOLIM1`, the volume's serial number of six bytes, its group, the version 1, the
--- epoch, the size of the volume, and zeros
-unfoldable pub label : List ℕ → ℕ → ℕ → ℕ → List ℕ
-label vsn group epoch size =
-    codes "DMVOLIM1" ++ vsn ++ group ∷ 1 ∷ [] ++ to_be_bytes w64 epoch ++ to_be_bytes w64 size ++ replicate 32 0

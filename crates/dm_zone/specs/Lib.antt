@@ -1,3 +1,0 @@
-pub mod Label
-pub mod Zone
-pub mod Room
