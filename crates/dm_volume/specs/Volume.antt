@@ -23,8 +23,7 @@ IsInZones size place n = (first_zone ≤ place) × (place + n ≤ size)
 abbrev pub IsReadable : ℕ → ℕ → ℕ → Type 0
 IsReadable size place n = IsInZones size place n ⊎ ((place ≡ 0) × (n ≡ first_zone))
 
--- What a write of these bytes makes of a file that it changes from one disk to another. Nothing of it says
--- anything of other files but `works`, by which they stay.
+-- What a write of these bytes at a place of a file makes of a disk. Other files stay, by `works`.
 pub record Replaces {T : Type 0} (file place : ℕ) (bytes : List ℕ) (old new : Disk) (result : Result T Failed) : Type 0 where
   -- done, the bytes stand there and every other byte stays
   pub stands : IsTrue old.told → OnOk result (Written place bytes (old.seen file) (new.seen file))

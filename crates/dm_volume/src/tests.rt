@@ -85,3 +85,21 @@ fn a_read_fails(rt: HostRuntime) -> Result<(), Fail> {
     assert_eq!(rt; bytes, [0; 64]);
     Ok(())
 }
+
+#[test]
+fn a_label_is_written(rt: HostRuntime) -> Result<(), Fail> {
+    let mut label = [0; 64];
+    label[..32].copy_from_slice(&[
+        0x44, 0x4d, 0x56, 0x4f, 0x4c, 0x49, 0x4d, 0x31, 0x41, 0x41, 0x30, 0x30, 0x30, 0x31, 1, 1,
+        0, 0, 0, 0, 0, 0, 0, 1, 0, 0, 0, 0, 0, 0, 1, 0xa8,
+    ]);
+    let mut bay = MemBay::empty(rt.alloc());
+    let mut volume = Volume::of(Vsn(*b"AA0001"), GroupId(1), 16, 424);
+    volume.write_zone(&mut bay, &MOUNT, 64, b"zone")?;
+    volume.relabel(&mut bay, &MOUNT, 1)?;
+    let mut bytes = [9; 64];
+    volume.read_chunk(&mut bay, &MOUNT, 0, &mut bytes)?;
+    assert_eq!(rt; bytes, label);
+    assert_eq!(rt; &bay.bytes(16)[64..], b"zone".as_slice());
+    Ok(())
+}

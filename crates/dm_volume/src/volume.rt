@@ -4,6 +4,7 @@ ghost use Rattle.dm_host.specs.Count.{HasCause};
 ghost use Rattle.dm_host.specs.Disk.{part, Same};
 ghost use Rattle.dm_host.specs.Works.{Works, File, Follows};
 ghost use Rattle.dm_rules.specs.Known.{Known, agrees, Holds};
+ghost use Rattle.dm_rules.specs.Label.{first_zone, label};
 ghost use Rattle.dm_volume.specs.Volume.{Replaces, IsInZones, IsReadable};
 
 use crate::image::{fetch, replace};
@@ -85,5 +86,18 @@ impl Volume {
         ensures cause { HasCause (B.count bay.old) (B.count bay.new) result }
     {
         fetch(bay, self.file, place, into)
+    }
+
+    /// Writes the label of this epoch, the first 64 bytes of the image, and syncs it. After an error these 64 may
+    /// hold any bytes.
+    pub fn relabel<B: Bay>(&mut self, bay: &mut B, mount: &Mount, epoch: u64) -> Result<(), Failed>
+        requires { mount.now.vsn ≡ self.old.vsn }
+        ensures replaces { Replaces self.old.file 0 (label self.old.vsn.0 self.old.group.0 epoch self.old.size) (B.disk bay.old) (B.disk bay.new) result }
+        ensures length { length (label self.old.vsn.0 self.old.group.0 epoch self.old.size) ≡ first_zone }
+        ensures volume { self.new ≡ self.old }
+        ensures cause { HasCause (B.count bay.old) (B.count bay.new) result }
+    {
+        let bytes = dm_zone::label(&self.vsn.0, self.group, epoch, self.size);
+        replace(bay, self.file, 0, &bytes)
     }
 }
