@@ -1,8 +1,8 @@
 -- What a write and a read say of what is known of a file.
-use Rattle.std.proofs.Common.{◌≡◌, ◌⊎◌, ⊎_elim, ℕ, ◌+◌, ◌<◌, ◌≤◌, IsTrue, List, length, take, drop, get_or, slice_index, Result, Ok, Err, OnOk, OnErr, refl, sym, ◌∙◌, ap, subst, arith}
+use Rattle.std.proofs.Common.{◌≡◌, ⊎_elim, ℕ, ◌+◌, ◌<◌, IsTrue, List, length, drop, slice_index, Result, Ok, Err, OnOk, OnErr, sym, ◌∙◌, ap, subst, arith}
 use Rattle.std.proofs.lemmas.List.{get_or-take, get_or-drop}
 use Rattle.dm_host.specs.declared.Failed.{Failed}
-use Rattle.dm_host.specs.Disk.{Disk, Image, Only, Settled, Torn, Written, part}
+use Rattle.dm_host.specs.Disk.{Disk, Only, Torn, Written, part}
 use Rattle.dm_host.specs.Works.{Works, File, Follows}
 use Rattle.dm_host.proofs.Moments.{weaker}
 use Rattle.dm_host.proofs.Outside.{torn_below, torn_above, part-at}
@@ -36,9 +36,10 @@ torn-outside place n old new torn = record {
 -- each byte of a write that was done
 pub written-there : (place : ℕ) (bytes old new : List ℕ) → Written place bytes old new → (i : ℕ) → i < length bytes
     → (place + i < length new) × (slice_index new (place + i) ≡ slice_index bytes i)
-written-there place bytes old new done i below =
-    (omega (arith, below, done.within),
-    sym (get_or-drop place new i 0) ∙ sym (get_or-take (length bytes) (drop place new) i 0 below) ∙ ap (λ (l : List ℕ). slice_index l i) done.there)
+written-there place bytes old new done i below = (
+  omega (arith, below, done.within),
+  sym (get_or-drop place new i 0) ∙ sym (get_or-take (length bytes) (drop place new) i 0 below) ∙ ap (λ (l : List ℕ). slice_index l i) done.there,
+)
 
 -- after a write that may be cut short nothing is known of its range
 pub torn-holds : (place n : ℕ) (known : Known) (old new : List ℕ) → Torn place n old new → Holds known old → Holds (forgotten place n known) new

@@ -59,14 +59,20 @@ fn a_write_that_fails_spoils_its_range_alone(rt: HostRuntime) -> Result<(), Fail
     volume.write_zone(&mut bay, &MOUNT, 64, b"first")?;
     volume.write_zone(&mut bay, &MOUNT, 69, b"second")?;
     bay.fail = [5, 8].to_vec(alloc)?;
-    assert_eq!(rt; volume.write_zone(&mut bay, &MOUNT, 66, b"zone"), Err(Failed));
+    assert_eq!(rt;
+        volume.write_zone(&mut bay, &MOUNT, 66, b"zone"),
+        Err(Failed)
+    );
     assert_eq!(rt; bay.faults(), 1);
     let mut bytes = [9; 11];
     volume.read_chunk(&mut bay, &MOUNT, 64, &mut bytes)?;
     assert_eq!(rt; &bytes[..2], b"fi".as_slice());
     assert_eq!(rt; &bytes[6..], b"econd".as_slice());
     // The seventh call writes the zone, and the eighth, which fails, is its sync.
-    assert_eq!(rt; volume.write_zone(&mut bay, &MOUNT, 66, b"zone"), Err(Failed));
+    assert_eq!(rt;
+        volume.write_zone(&mut bay, &MOUNT, 66, b"zone"),
+        Err(Failed)
+    );
     volume.read_chunk(&mut bay, &MOUNT, 64, &mut bytes)?;
     assert_eq!(rt; bytes, *b"fizoneecond");
     Ok(())
@@ -79,7 +85,10 @@ fn a_read_fails(rt: HostRuntime) -> Result<(), Fail> {
     let mut volume = Volume::of(Vsn(*b"AA0001"), GroupId(1), 16, 424);
     bay.fuse = Some(0);
     let mut bytes = [9; 64];
-    assert_eq!(rt; volume.read_chunk(&mut bay, &MOUNT, 0, &mut bytes), Err(Failed));
+    assert_eq!(rt;
+        volume.read_chunk(&mut bay, &MOUNT, 0, &mut bytes),
+        Err(Failed)
+    );
     bay.fuse = None;
     volume.read_chunk(&mut bay, &MOUNT, 0, &mut bytes)?;
     assert_eq!(rt; bytes, [0; 64]);

@@ -62,7 +62,13 @@ impl Volume {
     }
 
     /// Writes a zone at a place, and syncs the image. After an error the range of the zone may hold any bytes.
-    pub fn write_zone<B: Bay>(&mut self, bay: &mut B, mount: &Mount, place: u64, zone: &[u8]) -> Result<(), Failed>
+    pub fn write_zone<B: Bay>(
+        &mut self,
+        bay: &mut B,
+        mount: &Mount,
+        place: u64,
+        zone: &[u8],
+    ) -> Result<(), Failed>
         requires mount { mount.now.vsn ≡ self.old.vsn }
         requires range { IsInZones self.old.size place (length zone.now) }
         ensures replaces { Replaces self.old.file place zone.now (B.disk bay.old) (B.disk bay.new) result }
@@ -74,7 +80,13 @@ impl Volume {
 
     /// Fills `into` with the bytes from a place on. Bytes past the end of the file read as zeros. After an error
     /// `into` may hold any bytes.
-    pub fn read_chunk<B: Bay>(&mut self, bay: &mut B, mount: &Mount, place: u64, into: &mut [u8]) -> Result<(), Failed>
+    pub fn read_chunk<B: Bay>(
+        &mut self,
+        bay: &mut B,
+        mount: &Mount,
+        place: u64,
+        into: &mut [u8],
+    ) -> Result<(), Failed>
         requires mount { mount.now.vsn ≡ self.old.vsn }
         requires range { IsReadable self.old.size place (length into.old) }
         ensures bytes { IsTrue (B.disk bay.old).told → OnOk result (into.new ≡ part ((B.disk bay.old).seen self.old.file) place (length into.old)) }
