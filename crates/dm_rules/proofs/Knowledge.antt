@@ -1,8 +1,10 @@
 -- What is known of a volume after a write or a failed one, and what that says of a file's content and of a read.
-use Rattle.std.proofs.Common.{◌≡◌, ◌⊎◌, inl, inr, ⊎_elim, ℕ, zero, suc, ◌+◌, ◌-◌, ◌<◌, ◌≤◌, Bool, true, false, cond, not, ◌&&◌, IsTrue, List, [], ◌∷◌, length, get_or, slice_index, Option, None, Some, refl, sym, ◌∙◌, ap, subst, arith}
+use Rattle.std.proofs.Common.{◌≡◌, ◌⊎◌, inl, inr, ⊎_elim, ℕ, zero, suc, ◌+◌, ◌-◌, ◌<◌, ◌≤◌, Bool, true, false, cond, not, ◌&&◌, IsTrue, List, [], ◌∷◌, length, take, drop, get_or, slice_index, Option, None, Some, refl, sym, ◌∙◌, ap, subst, arith, length-drop}
 use Rattle.std.proofs.lemmas.Bool.{cases_lt}
 use Rattle.std.proofs.lemmas.Bool.Decides.{nat_tests}
+use Rattle.std.proofs.lemmas.List.{length-take-le, get_or-take, get_or-drop}
 use Rattle.std.specs.Cmp.{nat_cmp_total}
+use Rattle.std.specs.Ordering.{nat_cmp}
 use Rattle.std.specs.FinMap as map
 use Rattle.dm_rules.specs.Known.{Known, within, written, forgotten, may_be, agrees, byte_and, known_bytes, Holds}
 
@@ -172,3 +174,55 @@ agrees-known_bytes known place [] was agree is = same_some is
 agrees-known_bytes known place (b ∷ bs) was agree is =
     same_bytes b bs (map.get known place) (known_bytes known (place + 1) (length bs)) was (first_true _ _ agree)
     (λ rest there. agrees-known_bytes known (place + 1) bs rest (second_true _ _ agree) there) is
+
+-- nothing known is held by every content
+pub holds-empty : (content : List ℕ) → Holds map.empty content
+holds-empty content p b is = absurd (none_some (sym (map.get-empty nat_cmp p) ∙ is))
+
+-- the bytes of a range of which each is known
+pub known_bytes-each : (known : Known) (place : ℕ) (bytes : List ℕ) → ((i : ℕ) → i < length bytes → map.get known (place + i) ≡ Some (slice_index bytes i))
+    → known_bytes known place (length bytes) ≡ Some bytes
+unfolding known_bytes
+known_bytes-each known place [] each = refl
+known_bytes-each known place (b ∷ bs) each =
+    let at : place ≡ place + 0 = omega arith in
+    let rest = known_bytes-each known (place + 1) bs (λ i below.
+    let next : place + 1 + i ≡ place + suc i = omega arith in
+    ap (λ (p : ℕ). map.get known p) next ∙ each (suc i) (omega (arith, below))) in
+    ap (λ (o : Option ℕ). byte_and o (known_bytes known (place + 1) (length bs))) (ap (λ (p : ℕ). map.get known p) at ∙ each 0 (omega arith))
+    ∙ ap (λ (o : Option (List ℕ)). byte_and (Some b) o) rest
+
+-- two that know the same of a range
+pub known_bytes-same : (one other : Known) (place n : ℕ) → ((p : ℕ) → place ≤ p → p < place + n → map.get one p ≡ map.get other p) → known_bytes one place n ≡ known_bytes other place n
+unfolding known_bytes
+known_bytes-same one other place zero same = refl
+known_bytes-same one other place (suc n) same =
+    ap (λ (o : Option ℕ). byte_and o (known_bytes one (place + 1) n)) (same place (omega arith) (omega arith))
+    ∙ ap (λ (o : Option (List ℕ)). byte_and (map.get other place) o) (known_bytes-same one other (place + 1) n (λ p from below. same p (omega (arith, from)) (omega (arith, below))))
+
+-- a part of what was written is known
+pub known_bytes-written : (place : ℕ) (bytes : List ℕ) (known : Known) (start n : ℕ) → start + n ≤ length bytes
+    → known_bytes (written place bytes known) (place + start) n ≡ Some (take n (drop start bytes))
+known_bytes-written place bytes known start n within =
+    let piece = take n (drop start bytes) in
+    let long : length piece ≡ n = length-take-le n (drop start bytes) (omega (arith, within, length-drop start bytes)) in
+    let each : (i : ℕ) → i < length piece → map.get (written place bytes known) (place + start + i) ≡ Some (slice_index piece i) = λ i below.
+    let at : place + start + i ≡ place + (start + i) = omega arith in
+    ap (λ (p : ℕ). map.get (written place bytes known) p) at ∙ get-written_in place bytes known (start + i) (omega (arith, below, long, within))
+    ∙ ap (λ (b : ℕ). Some b) (sym (get_or-take n (drop start bytes) i 0 (omega (arith, below, long)) ∙ get_or-drop start bytes i 0)) in
+    ap (λ (m : ℕ). known_bytes (written place bytes known) (place + start) m) (sym long) ∙ known_bytes-each (written place bytes known) (place + start) piece each
+
+-- two ranges have no place in common
+abbrev pub Apart : ℕ → ℕ → ℕ → ℕ → Type 0
+Apart place n start m = (start + m ≤ place) ⊎ (place + n ≤ start)
+
+-- a write leaves what is known of another range
+pub known_bytes-written_apart : (place : ℕ) (bytes : List ℕ) (known : Known) (start m : ℕ) → Apart place (length bytes) start m
+    → known_bytes (written place bytes known) start m ≡ known_bytes known start m
+known_bytes-written_apart place bytes known start m apart = known_bytes-same (written place bytes known) known start m (λ p from below.
+    get-written_out place bytes known p (⊎_elim (λ before. inl (omega (arith, before, below))) (λ behind. inr (omega (arith, behind, from))) apart))
+
+-- and so does one that failed
+pub known_bytes-forgotten_apart : (place n : ℕ) (known : Known) (start m : ℕ) → Apart place n start m → known_bytes (forgotten place n known) start m ≡ known_bytes known start m
+known_bytes-forgotten_apart place n known start m apart = known_bytes-same (forgotten place n known) known start m (λ p from below.
+    get-forgotten_out place n known p (⊎_elim (λ before. inl (omega (arith, before, below))) (λ behind. inr (omega (arith, behind, from))) apart))
