@@ -1,10 +1,11 @@
 -- What a file keeps while it, or another one, is worked on.
 use Rattle.std.proofs.Common.{◌≡◌, ℕ, IsTrue, List, length, Result, OnOk, OnErr, sym, subst}
 use Rattle.dm_host.specs.declared.Failed.{Failed}
-use Rattle.dm_host.specs.Disk.{Disk, Image, Same}
+use Rattle.dm_host.specs.Disk.{Disk, Image, MayLeave, Settled, Same}
 use Rattle.dm_host.specs.Works.{Works, File, Follows}
-use Rattle.dm_host.proofs.Moments.{settled_still, fewer_after}
+use Rattle.dm_host.proofs.Moments.{settled_still, fewer_after, each_moment}
 use Rattle.dm_rules.specs.Known.{Known, written, forgotten, Holds}
+use Rattle.dm_rules.proofs.Knowledge.{holds-forgotten_same}
 use Rattle.dm_volume.specs.Volume.{Replaces, Keeps}
 use Rattle.dm_volume.proofs.Replacing.{so_err, both_ok}
 
@@ -20,6 +21,14 @@ module _ {T : Type 0} (file place : ℕ) (bytes : List ℕ) (old new : Disk) (re
     seen = seen;
     left = λ c left. (w.any_moment known k.left).now (λ g. c) (λ g is. subst (λ (h : ℕ). new.may_leave h c) (sym is) left);
   })
+
+-- Each image that a crash since the start of a write may have left holds what was known outside its range.
+pub left_since-holds : {T : Type 0} (file place : ℕ) (bytes : List ℕ) (old new : Disk) (result : Result T Failed) → Replaces file place bytes old new result
+    → ((x : Image) → old.left_since old.moment x → MayLeave old x) → (known : Known) → Settled old file (Holds known) → (x : Image) → new.left_since old.moment x
+    → Holds (forgotten place (length bytes) known) (x file)
+left_since-holds file place bytes old new result w only_now known settled =
+    each_moment (File file) old new (λ x. Holds (forgotten place (length bytes) known) (x file)) (w.any_moment known settled) only_now
+    (λ x left. holds-forgotten_same place (length bytes) known (x file) (settled (x file) (left file)))
 
 -- a call that changes no content
 pub keeps_same : (file : ℕ) (old new : Disk) → Works (File file) old new (Follows Same file old) → new.seen file ≡ old.seen file → (known : Known) → Keeps old file known

@@ -1,4 +1,4 @@
-//! Ranges of a file, as numbers.
+//! Ranges of an image.
 ghost use Rattle.std.specs.Prelude.{◌≡◌, ◌⊎◌, ◌+◌, ◌<◌, ◌≤◌, ◌^◌, length, IsTrue, OnOk};
 ghost use Rattle.dm_host.specs.Count.{HasCause};
 ghost use Rattle.dm_host.specs.Disk.{part, Same};

@@ -1,4 +1,4 @@
-//! A volume.
+//! A volume: what of its image is known after each call.
 ghost use Rattle.std.specs.Prelude.{◌≡◌, ◌+◌, ◌<◌, ◌≤◌, ◌^◌, length, IsTrue, OnOk};
 ghost use Rattle.dm_host.specs.Count.{HasCause};
 ghost use Rattle.dm_host.specs.Disk.{part, Same};
@@ -12,7 +12,8 @@ use dm_base::{GroupId, Mount, Vsn};
 use dm_host::{Bay, Failed};
 use std::marker::Model;
 
-/// A volume whose image is a file of a bay.
+/// A volume whose image is a file of a bay. Each call takes a mount of the volume. It reads nothing of it: that
+/// there is one keeps every call off a volume that isn't mounted.
 #[derive(Drop)]
 pub struct Volume {
     vsn: Vsn,
@@ -47,6 +48,7 @@ impl Volume {
         }
     }
 
+    /// Its serial number, which a mount of it has too.
     pub fn vsn(&self) -> Vsn
         ensures { result ≡ self.now.vsn }
     {
