@@ -1,8 +1,8 @@
 -- The entries that files and dumps are kept in, as finite maps.
-use Rattle.std.proofs.Common.{◌≡◌, ℕ, List, [], ◌∷◌, Bool, true, false, Option, Some, None, cond, refl, ap, sym, ◌∙◌}
+use Rattle.std.proofs.Common.{◌≡◌, ◌≢◌, ℕ, List, [], ◌∷◌, false, Option, Some, None, cond, refl, ap, sym, ◌∙◌}
 use Rattle.std.specs.declared.cmp.Ordering.TheVariants.{Less, Equal, Greater}
 use Rattle.std.specs.Ordering.{nat_cmp, is_eq, eq_by_cmp}
-use Rattle.std.specs.Cmp.{eq_by_cmp_equiv}
+use Rattle.std.specs.Cmp.{eq_by_cmp_equiv, tied_itself}
 use Rattle.std.specs.Cmp.Lexicographic.{slice_cmp, nat_list_cmp_total}
 use Rattle.std.specs.List.{IsDistinct}
 use Rattle.std.specs.Map.{lookup, keys_of, update_all}
@@ -16,6 +16,15 @@ Table X = FinMap (slice_cmp nat_cmp) X
 
 turned : (key q : List ℕ) → is_at (slice_cmp nat_cmp key) q ≡ eq_by_cmp (slice_cmp nat_cmp) q key
 turned key q = (eq_by_cmp_equiv nat_list_cmp_total).symm key q
+
+-- keys that differ don't tie
+apart : (x y : List ℕ) → x ≢ y → eq_by_cmp (slice_cmp nat_cmp) x y ≡ false
+apart x y differ =
+    elim (slice_cmp nat_cmp x y) as (λ o. slice_cmp nat_cmp x y ≡ o → is_eq o ≡ false) [
+      | Less ↦ λ e. refl
+      | Equal ↦ λ e. absurd (differ (exact_bytes x y e))
+      | Greater ↦ λ e. refl
+    ] refl
 
 module _ {X : Type 0} where
   -- what the entries have at a key
@@ -87,3 +96,15 @@ module _ {X : Type 0} where
         | Equal ↦ λ e. sym (ap (get m) (exact_bytes q key e) ∙ absent)
         | Greater ↦ λ e. refl
       ] refl)
+
+  pub get-insert_same : (m : Table X) (key : List ℕ) (x : X) → get (insert m key x) key ≡ Some x
+  get-insert_same m key x = get-insert nat_list_cmp_total m key x key ∙ ap (λ o. cond (is_eq o) (Some x) (get m key)) (tied_itself nat_list_cmp_total key)
+
+  pub get-insert_other : (m : Table X) (key other : List ℕ) (x : X) → other ≢ key → get (insert m key x) other ≡ get m other
+  get-insert_other m key other x differ = get-insert nat_list_cmp_total m key x other ∙ ap (λ b. cond b (Some x) (get m other)) (apart other key differ)
+
+  pub get-remove_same : (m : Table X) (key : List ℕ) → get (remove m key) key ≡ None
+  get-remove_same m key = get-remove nat_list_cmp_total m key key ∙ ap (λ o. cond (is_eq o) None (get m key)) (tied_itself nat_list_cmp_total key)
+
+  pub get-remove_other : (m : Table X) (key other : List ℕ) → other ≢ key → get (remove m key) other ≡ get m other
+  get-remove_other m key other differ = get-remove nat_list_cmp_total m key other ∙ ap (λ b. cond b None (get m other)) (apart other key differ)

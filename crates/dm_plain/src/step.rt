@@ -7,7 +7,10 @@ use dm_base::{Bytes, DumpName, Path, Secs};
 #[derive(Drop)]
 pub enum PlainStep {
     /// Makes the file, or replaces all its bytes.
-    Write { path: Path, bytes: Bytes },
+    Write {
+        path: Path,
+        bytes: Bytes,
+    },
     /// Replaces the range of the file that begins at `offset`. The file grows where the range ends
     /// past its end, and zeros fill what gap there is in front of the range.
     Patch {
@@ -16,11 +19,17 @@ pub enum PlainStep {
         bytes: Bytes,
     },
     /// Takes the file out.
-    Remove { path: Path },
+    Remove {
+        path: Path,
+    },
     /// Keeps a copy of all files, made now, in place of a dump that has the name.
-    Dump { name: DumpName },
+    Dump {
+        name: DumpName,
+    },
     /// Drops the dump.
-    Undump { name: DumpName },
+    Undump {
+        name: DumpName,
+    },
     /// Copies the dump's file of `path` to `target`, in place of a file that is there.
     Restore {
         name: DumpName,
@@ -28,5 +37,7 @@ pub enum PlainStep {
         target: Path,
     },
     /// Sets the time.
-    Time { now: Secs },
+    Time {
+        now: Secs,
+    },
 }

@@ -1,3 +1,5 @@
+ghost use Rattle.std.specs.Prelude.{◌≡◌, ◌+◌, ◌≤◌, length, IfOk};
+
 use super::*;
 use dm_base::{Bytes, DumpName, NoMemory, Path, Secs};
 use std::alloc::Global;
@@ -11,7 +13,9 @@ fn name(alloc: Global, text: &[u8]) -> Result<DumpName, NoMemory> {
     DumpName::of_bytes(alloc, text).map_err(|_| NoMemory)
 }
 
-fn bytes(alloc: Global, text: &[u8]) -> Result<Bytes, NoMemory> {
+fn bytes(alloc: Global, text: &[u8]) -> Result<Bytes, NoMemory>
+    ensures { IfOk result (λ bytes. bytes ≡ text.now) }
+{
     Ok(Bytes::from_vec(Vec::from_slice(alloc, text)?))
 }
 
@@ -27,15 +31,14 @@ fn patch(
     alloc: Global,
     files: &mut Plain,
     text: &[u8],
-    offset: u16,
+    offset: u64,
     piece: &[u8],
-) -> Result<(), NoMemory> {
-    if piece.len() > 100 {
-        return Err(NoMemory);
-    }
+) -> Result<(), NoMemory>
+    requires { offset + length piece.now ≤ 16777216 }
+{
     let step = PlainStep::Patch {
         path: path(alloc, text)?,
-        offset: u64::from(offset),
+        offset,
         bytes: bytes(alloc, piece)?,
     };
     files.apply(alloc, &step)
