@@ -1,0 +1,23 @@
+-- What each kind of step does to the views of a seat. What is said is picked by the call, for the proof alone.
+use Rattle.std.specs.Prelude.{◌≡◌, ℕ, Option, Some, None, IfSome, List, [], ◌∷◌, unwrap_or}
+use Rattle.atomic_table.specs.Table.{Me}
+use Rattle.dm_spine.specs.Past.{Meaning, Legal}
+use Rattle.dm_spine.specs.Rule.{view, sight, joined, without, Draws, Together}
+use Rattle.dm_spine.specs.declared.rule.View.{View}
+
+module _ {S N E : Type 0} (m : Meaning S N E) where
+  abbrev pub draws_as : Option (S × E) → Me (Unit {0}) (List (View E N)) → ℕ → Me (Unit {0}) (List (View E N)) → Type 0
+  draws_as said v n w = IfSome said (λ a. (w.0 ≡ sight w.0 ∷ []) × (w.1 ≡ []) × Draws m a.0 a.1 (sight v.0) n (sight w.0))
+
+  abbrev pub cut_left : Option (List N) → List (View E N) → List (View E N)
+  cut_left said vs = view (sight vs).seen (without m (unwrap_or said []) (sight vs).keeps) ∷ []
+
+  abbrev pub settles_as : Option S → Me (Unit {0}) (List (View E N)) → Me (Unit {0}) (List (View E N)) → Type 0
+  settles_as said v w = IfSome said (λ p. (v' u : View E N) → v.0 ≡ v' ∷ (u ∷ []) → (w.0 ≡ joined v' u ∷ []) × (w.1 ≡ []) × Together m p v' u)
+
+  abbrev pub looks_as : Option S → Me (Unit {0}) (List (View E N)) → Me (Unit {0}) (List (View E N)) → Type 0
+  looks_as said v w = IfSome said (λ p. (w ≡ v) × Legal m p (sight v.0).seen)
+
+module _ {N E : Type 0} where
+  abbrev pub cut_right : Option (List N) → List (View E N) → List (View E N)
+  cut_right said vs = view (sight vs).seen (unwrap_or said []) ∷ []
