@@ -1,3 +1,6 @@
 pub mod Lists
-pub mod Parts
+pub mod Portions
 pub mod Legality
+pub mod Counts
+pub mod Seats
+pub mod Draws
