@@ -4,3 +4,4 @@ pub mod Legality
 pub mod Counts
 pub mod Seats
 pub mod Draws
+pub mod Shares

@@ -16,7 +16,7 @@ module _ {S N E : Type 0} (m : Meaning S N E) where
   settles_as said v w = IfSome said (λ p. (v' u : View E N) → v.0 ≡ v' ∷ (u ∷ []) → (w.0 ≡ joined v' u ∷ []) × (w.1 ≡ []) × Together m p v' u)
 
   abbrev pub looks_as : Option S → Me (Unit {0}) (List (View E N)) → Me (Unit {0}) (List (View E N)) → Type 0
-  looks_as said v w = IfSome said (λ p. (w ≡ v) × Legal m p (sight v.0).seen)
+  looks_as said v w = IfSome said (λ p. (w ≡ v) × Legal m p (sight w.0).seen)
 
 module _ {N E : Type 0} where
   abbrev pub cut_right : Option (List N) → List (View E N) → List (View E N)

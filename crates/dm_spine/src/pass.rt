@@ -54,7 +54,7 @@ impl<P: Parts> Spine<P> {
 }
 
 impl<P: Parts> Pass<P> {
-    ghost use Rattle.std.specs.Prelude.{◌≡◌, [], ◌∷◌, IfOk, OnErr};
+    ghost use Rattle.std.specs.Prelude.{◌≡◌, [], ◌∷◌, IfOk, OnOk, OnErr};
     ghost use Rattle.dm_spine.specs.Past.{In, Legal};
     ghost use Rattle.dm_spine.specs.Rule.{MayDraw, Draws, Together, view, joined, without};
     ghost use Rattle.dm_spine.specs.Passes.{IsBeside, parts_of, view_of, seen_by, kept_by, past_of};
@@ -73,9 +73,10 @@ impl<P: Parts> Pass<P> {
     /// pass is a mere note of the past. With `NoMemory` nothing has changed.
     pub fn split(&mut self, alloc: Global, names: Vec<P::Name>) -> Result<Pass<P>, NoMemory>
         requires { (x : P.Name) → In x names.items → In x (kept_by self.old) }
-        ensures refused { OnErr result (self.new ≡ self.old) }
-        ensures spine { IfOk result (λ other. IsBeside self.old self.new × IsBeside self.old other) }
-        ensures left { IfOk result (λ other. view_of self.new ≡ view (seen_by self.old) (without P.meaning names.items (kept_by self.old))) }
+        ensures refused { OnErr result (view_of self.new ≡ view_of self.old) }
+        ensures spine { IsBeside self.old self.new }
+        ensures beside { IfOk result (λ other. IsBeside self.old other) }
+        ensures left { OnOk result (view_of self.new ≡ view (seen_by self.old) (without P.meaning names.items (kept_by self.old))) }
         ensures right { IfOk result (λ other. view_of other ≡ view (seen_by self.old) names.items) }
     {
         let table = Arc::try_clone(&self.table)?;

@@ -114,7 +114,7 @@ pub(crate) fn look_at<P: Parts, W: Said<P>>(table: &Rows<P>, seat: &mut Seat<(),
     requires key { IsSomeAnd W.said (λ p. p ≡ table.now.shared.key) }
     ensures seated { IsSeated table.now.shared.table_id seat.new.table_id seat.new.me }
     ensures same { IfSome W.said (λ p. sight seat.new.me.0 ≡ sight seat.old.me.0) }
-    ensures legal { IfSome W.said (λ p. Legal P.meaning p (sight seat.old.me.0).seen) }
+    ensures legal { IfSome W.said (λ p. Legal P.meaning p (sight seat.new.me.0).seen) }
 {
     table.shared.load::<Look<P, W>>(seat, 0);
 }
