@@ -11,10 +11,10 @@ use Rattle.dm_spine.specs.Past.{Meaning, Lawful, In, Rises, below, IsAbove, chai
 use Rattle.dm_spine.specs.Rule.{view, sight, drawn, IsView, IsLog, KeptBy, Kept, MayDraw, Draws}
 use Rattle.dm_spine.specs.Steps.{draws_as}
 use Rattle.dm_spine.specs.declared.rule.View.{View}
-use Rattle.dm_spine.proofs.Lists.{in_left, in_right, in_append, in_filter, filter_in, rises_low, rises_filter, rises_last}
+use Rattle.dm_spine.proofs.Lists.{in_left, in_right, in_append, in_filter, filter_in, rises_low, rises_filter, rises_last, same_members}
 use Rattle.dm_spine.proofs.Portions.{same_count}
 use Rattle.dm_spine.proofs.Counts.{short, at_home-last, at_home-more, at_home-other}
-use Rattle.dm_spine.proofs.Seats.{in_one, single_view}
+use Rattle.dm_spine.proofs.Seats.{in_one, not_two, single_view, sound_view}
 
 module _ {A : Type 0} where
   passed : (b : Bool) (x : A) (xs ys : List A) → b ≡ true → ys ≡ xs → cond b (x ∷ ys) ys ≡ x ∷ xs
@@ -57,6 +57,9 @@ module _ {S N E : Type 0} (m : Meaning S N E) (ok : Lawful m) (p : S) where
   rooted_more : (log : List (ℕ × E)) (z : ℕ × E) (x : N) → In x (m.fixed p) ⊎ Made m x log → In x (m.fixed p) ⊎ Made m x (log ++ z ∷ [])
   rooted_more log z x h = ⊎_elim (λ t. inl t) (λ t. inr (made_more x log (log ++ z ∷ []) (longer log z) t)) h
 
+  rooted_log : (log : List (ℕ × E)) (v : View E N) (x : N) → IsView m p log v → In x v.keeps → In x (m.fixed p) ⊎ Made m x log
+  rooted_log log v x h k = ⊎_elim (λ f. inl f) (λ d. inr (made_more x v.seen log h.part.within d)) (h.rooted x k)
+
   -- what the entry makes was made by none before it
   not_made : (log : List (ℕ × E)) (v : View E N) (n : ℕ) (e : E) → IsAbove n log → IsView m p log v → MayDraw m p e v → (x : N) → In x (m.makes n e) → Made m x log → ⊥
   not_made log v n e above h may x k made =
@@ -71,7 +74,7 @@ module _ {S N E : Type 0} (m : Meaning S N E) (ok : Lawful m) (p : S) where
     ⊎_elim
       (λ u. root (g.grown b x u about))
       (λ u. let P : ℕ × E → Type 0 = λ c. m.about c.1 x ≡ true in
-        root (h.rooted x (may.keeps x (subst P (in_one b (n, e) u) about))))
+        root (rooted_log log v x h (may.keeps x (subst P (in_one b (n, e) u) about))))
       (in_append b log ((n, e) ∷ []) t)
 
   -- the history with one entry more
@@ -89,7 +92,7 @@ module _ {S N E : Type 0} (m : Meaning S N E) (ok : Lawful m) (p : S) where
       low = λ a t. ⊎_elim (λ u. let l : a.0 < n = g.low a u in omega arith) (λ u. let l : a.0 ≡ n = ap (λ (c : ℕ × E). c.0) (in_one a z u) in omega arith) (in_append a log (z ∷ []) t);
       housed = λ a t. ⊎_elim (λ u. g.housed a u) (λ u. let P : ℕ × E → Type 0 = λ c. In (m.home c.1) (m.fixed p) in subst P (sym (in_one a z u)) home) (in_append a log (z ∷ []) t);
       few = λ h'. crowd log z h' room (g.few h') (cases_Bool (m.same (m.home e) h'));
-      grown = λ a x t about. ⊎_elim (λ u. rooted_more log z x (g.grown a x u about)) (λ u. let P : ℕ × E → Type 0 = λ c. m.about c.1 x ≡ true in rooted_more log z x (h.rooted x (may.keeps x (subst P (in_one a z u) about)))) (in_append a log (z ∷ []) t);
+      grown = λ a x t about. ⊎_elim (λ u. rooted_more log z x (g.grown a x u about)) (λ u. let P : ℕ × E → Type 0 = λ c. m.about c.1 x ≡ true in rooted_more log z x (rooted_log log v x h (may.keeps x (subst P (in_one a z u) about)))) (in_append a log (z ∷ []) t);
     } where
     crowd : (log : List (ℕ × E)) (z : ℕ × E) (h : N) → at_home m (m.home z.1) log < 281474976710656 → at_home m h log ≤ 281474976710656 → (m.same (m.home z.1) h ≡ true) ⊎ (m.same (m.home z.1) h ≡ false) → at_home m h (log ++ z ∷ []) ≤ 281474976710656
     crowd log z h room few (inl e) =
@@ -118,7 +121,7 @@ module _ {S N E : Type 0} (m : Meaning S N E) (ok : Lawful m) (p : S) where
       (λ w. h.lives x k b w ends)
       (λ w. let P : ℕ × E → Type 0 = λ c. m.ends c.1 x ≡ true in apart x k (ok.ends_about z.1 x (subst P (in_one b z w) ends)))
       (in_append b log (z ∷ []) t);
-    rooted = λ x k. rooted_more log z x (h.rooted x k);
+    rooted = h.rooted;
   }
 
   legal_last : (xs : List (ℕ × E)) (n : ℕ) (e : E) → IsAbove n xs → Legal m p xs → Fits m p xs e → Legal m p (xs ++ (n, e) ∷ [])
@@ -160,8 +163,8 @@ module _ {S N E : Type 0} (m : Meaning S N E) (ok : Lawful m) (p : S) where
         (λ u. silent x u b t (ok.ends_about b.1 x ends))
         (in_append x (filter (λ y. not (m.ends e y)) v.keeps) (m.makes n e) k);
       rooted = λ x k. ⊎_elim
-        (λ u. rooted_more log z x (h.rooted x (old x u).0))
-        (λ u. inr (z, latest log z, u))
+        (λ u. rooted_more v.seen z x (h.rooted x (old x u).0))
+        (λ u. inr (z, latest v.seen z, u))
         (in_append x (filter (λ y. not (m.ends e y)) v.keeps) (m.makes n e) k);
     } where
     before : (x : N) (a b : ℕ × E) → b.0 < a.0 → m.about a.1 x ≡ true → m.about b.1 x ≡ true → In a v.seen ⊎ In a ((n, e) ∷ []) → In b log ⊎ In b ((n, e) ∷ []) → In b v.seen
@@ -185,7 +188,7 @@ module _ {S N E : Type 0} (m : Meaning S N E) (ok : Lawful m) (p : S) where
     let alone : (j : ℕ) (ws : List (View E N)) (w : View E N) (x : N) → In x d.keeps → j ≢ id → get_elem? seats j ≡ some ws → In w ws → In x w.keeps → ⊥
       = λ j ws w x t ne at' o q. ⊎_elim
         (λ u. apart j ws w x ne at' o q (in_filter (λ y. not (m.ends e y)) x v.keeps u).0)
-        (λ u. ⊎_elim (λ f. ok.makes_loose p n e x u f) (λ r. not_made log v n e g.low h may x u r) ((k.known j ws w at' o).rooted x q))
+        (λ u. ⊎_elim (λ f. ok.makes_loose p n e x u f) (λ r. not_made log v n e g.low h may x u r) (rooted_log log w x (k.known j ws w at' o) q))
         (in_append x (filter (λ y. not (m.ends e y)) v.keeps) (m.makes n e) t) in
     record {
       word = refl;
@@ -204,18 +207,26 @@ module _ {S N E : Type 0} (m : Meaning S N E) (ok : Lawful m) (p : S) where
           (λ b. k.one i j vs ws u w x a.1 b.1 oi oj qi qj)
           (at_set seats id j (d ∷ []) ws tj))
         (at_set seats id i (d ∷ []) vs ti);
+      pair = λ i u w x t oi oj. ⊎_elim (λ a. absurd (not_two d u w a.1)) (λ a. k.pair i u w x a.1 oi oj) (at_set seats id i (d ∷ []) (u ∷ (w ∷ [])) t);
     }
+
+  -- who keeps every fixed name has seen the whole history
+  whole_log : (log : List (ℕ × E)) (v : View E N) → IsLog m p log → IsView m p log v → ((x : N) → In x (m.fixed p) → In x v.keeps) → log ≡ v.seen
+  whole_log log v g h all = same_members 0 0 log v.seen g.rises h.part.rises (λ a t. h.whole (m.home a.1) (all (m.home a.1) (g.housed a t)) a t (ok.home_about a.1)) h.part.within
 
   draws : (log : List (ℕ × E)) (v : View E N) (e : E) → IsLog m p log → IsView m p log v → MayDraw m p e v → Draws m p e v (length log) (drawn m (length log) e v)
   draws log v e g h may =
     let z : ℕ × E = (length log, e) in
     let more : length (log ++ z ∷ []) ≡ length log + 1 = length-append log (z ∷ []) in
     let l = short m ok p (log ++ z ∷ []) (log_more log v e g h may) in
+    let after = view_drawn log v (length log) e g g.low h may in
     record {
       after = refl;
       above = λ a t. g.low a (h.part.within a t);
       few = omega arith;
-      legal = (view_drawn log v (length log) e g g.low h may).legal;
+      next = λ all. ap length (whole_log log v g h all);
+      legal = after.legal;
+      sound = sound_view m p (log ++ z ∷ []) (drawn m (length log) e v) after;
     }
 
   -- whatever the table is when the word is counted up, the seat can go on

@@ -6,13 +6,13 @@ use Rattle.atomic_table.specs.Table.{State, Me, Act, Valid, Allows, Splits, Join
 use Rattle.atomic_table.specs.Table.Act.{keeps}
 use Rattle.atomic_table.proofs.Lists.{at_set, set_else, set_again}
 use Rattle.dm_spine.specs.Past.{Meaning, Lawful, In, union, chain, Made, IsPart, Legal}
-use Rattle.dm_spine.specs.Rule.{view, sight, joined, without, IsView, IsLog, KeptBy, Kept, Together}
+use Rattle.dm_spine.specs.Rule.{view, sight, joined, without, IsView, IsLog, IsSound, KeptBy, Kept, Together}
 use Rattle.dm_spine.specs.Steps.{cut_left, cut_right, settles_as, looks_as}
 use Rattle.dm_spine.specs.declared.rule.View.{View}
 use Rattle.dm_spine.proofs.Lists.{in_left, in_right, in_append, union_left, union_right, rises_union}
 use Rattle.dm_spine.proofs.Portions.{parts_one, union_part, part_within, same_chain}
 use Rattle.dm_spine.proofs.Legality.{parts_meet, union_meets}
-use Rattle.dm_spine.proofs.Seats.{in_one, at_end, single_view, in_without, view_fewer}
+use Rattle.dm_spine.proofs.Seats.{in_one, not_two, at_end, single_view, sound_view, in_without, view_fewer}
 
 module _ {S N E : Type 0} (m : Meaning S N E) (ok : Lawful m) (p : S) where
   none_known : (i : ℕ) (a b : List (View E N)) → get_elem? (a ∷ []) i ≡ some b → (i ≡ 0) × (a ≡ b)
@@ -36,6 +36,7 @@ module _ {S N E : Type 0} (m : Meaning S N E) (ok : Lawful m) (p : S) where
       let e = in_one v (view [] (m.fixed p)) (subst P (sym (none_known i (view [] (m.fixed p) ∷ []) vs t).1) o) in
       subst Q (sym e) first_view;
     one = λ i j vs ws v w x ti tj oi oj qi qj. (none_known i (view [] (m.fixed p) ∷ []) vs ti).0 ∙ sym (none_known j (view [] (m.fixed p) ∷ []) ws tj).0;
+    pair = λ i u w x t oi oj. not_two (view [] (m.fixed p)) u w (none_known i (view [] (m.fixed p) ∷ []) (u ∷ (w ∷ [])) t).1;
   }) where
     first_view : IsView m p [] (view [] (m.fixed p))
     first_view = record {
@@ -47,9 +48,9 @@ module _ {S N E : Type 0} (m : Meaning S N E) (ok : Lawful m) (p : S) where
     }
 
   -- a seat's views change, and no view keeps more than some view of that seat did
-  kept_set : (log : List (ℕ × E)) (words : List ℕ) (seats : List (List (View E N))) (id : ℕ) (old new : List (View E N)) → KeptBy m p log words seats → get_elem? seats id ≡ some old
+  kept_set : (log : List (ℕ × E)) (words : List ℕ) (seats : List (List (View E N))) (id : ℕ) (old new : List (View E N)) → length new ≡ 1 → KeptBy m p log words seats → get_elem? seats id ≡ some old
     → ((u : View E N) → In u new → IsView m p log u) → ((u : View E N) (x : N) → In u new → In x u.keeps → (o : View E N) × In o old × In x o.keeps) → KeptBy m p log words (set seats id new)
-  kept_set log words seats id old new k at fine from =
+  kept_set log words seats id old new single k at fine from =
     let inside : (vs : List (View E N)) (u : View E N) → new ≡ vs → In u vs → In u new = λ vs u q t. let P : List (View E N) → Type 0 = λ ws. In u ws in subst P (sym q) t in
     record {
       word = k.word;
@@ -65,6 +66,10 @@ module _ {S N E : Type 0} (m : Meaning S N E) (ok : Lawful m) (p : S) where
           (λ b. k.one i j vs ws u w x a.1 b.1 oi oj qi qj)
           (at_set seats id j new ws tj))
         (at_set seats id i new vs ti);
+      pair = λ i u w x t oi oj. ⊎_elim
+        (λ a. let l : length (u ∷ (w ∷ [])) ≡ 1 = ap length (sym a.1) ∙ single in absurd (omega arith))
+        (λ a. k.pair i u w x a.1 oi oj)
+        (at_set seats id i new (u ∷ (w ∷ [])) t);
     }
 
   -- names go over to a new seat
@@ -76,7 +81,7 @@ module _ {S N E : Type 0} (m : Meaning S N E) (ok : Lawful m) (p : S) where
     let right = view v.seen names in
     let fewer : (x : N) → In x left.keeps → In x v.keeps × (In x names → ⊥) = λ x t. in_without m ok x names v.keeps t in
     let seats' = set seats id (left ∷ []) in
-    let k' : KeptBy m p log words seats' = kept_set log words seats id (v ∷ []) (left ∷ []) k at
+    let k' : KeptBy m p log words seats' = kept_set log words seats id (v ∷ []) (left ∷ []) refl k at
       (λ u t. let Q : View E N → Type 0 = λ y. IsView m p log y in subst Q (sym (in_one u left t)) (view_fewer m ok p log v left.keeps (λ x o. (fewer x o).0) h))
       (λ u x t o. let P : View E N → Type 0 = λ y. In x y.keeps in (v, inl refl, (fewer x (subst P (in_one u left t) o)).0)) in
     let is_right : (vs : List (View E N)) (u : View E N) → right ∷ [] ≡ vs → In u vs → u ≡ right = λ vs u q t. let P : List (View E N) → Type 0 = λ ws. In u ws in in_one u right (subst P (sym q) t) in
@@ -107,6 +112,7 @@ module _ {S N E : Type 0} (m : Meaning S N E) (ok : Lawful m) (p : S) where
           (λ b. a.0 ∙ sym b.0)
           (at_end seats' (right ∷ []) ws j tj))
         (at_end seats' (right ∷ []) vs i ti);
+      pair = λ i u w x t oi oj. ⊎_elim (λ a. k'.pair i u w x a oi oj) (λ a. not_two right u w a.1) (at_end seats' (right ∷ []) (u ∷ (w ∷ [])) i t);
     }
 
   cut_some : (names : List N) (id : ℕ) (v : View E N) → ((x : N) → In x names → In x v.keeps) → Splits (Kept m p) id (v ∷ []) (cut_left m (Some names) (v ∷ [])) (cut_right (Some names) (v ∷ []))
@@ -146,9 +152,15 @@ module _ {S N E : Type 0} (m : Meaning S N E) (ok : Lawful m) (p : S) where
   meet id other i j k l e f g (inr a) (inl b) = absurd (g (sym b ∙ (sym e ∙ a.0)))
   meet id other i j k l e f g (inr a) (inr b) = a.1 ∙ sym b.1
 
-  -- a seat takes in the views of another
-  pub joins_said : (id other : ℕ) (v w : List (View E N)) → Joins (Kept m p) id v other w (v ++ w) []
-  joins_said id other v w s kept at ne at' =
+  abbrev second : List (View E N) → View E N
+  second [] = view [] []
+  second (x ∷ []) = view [] []
+  second (x ∷ (y ∷ ys)) = y
+
+  joins_two : (id other : ℕ) (v' w' : View E N) → Joins (Kept m p) id (v' ∷ []) other (w' ∷ []) (v' ∷ (w' ∷ [])) []
+  joins_two id other v' w' s kept at ne at' =
+    let v : List (View E N) = v' ∷ [] in
+    let w : List (View E N) = w' ∷ [] in
     let k = kept.1 in
     let was : (i : ℕ) (vs : List (View E N)) (u : View E N) → get_elem? (set (set s.views id (v ++ w)) other []) i ≡ some vs → In u vs → Was s.views id other i u
       = λ i vs u t o. before_join s.views id other v w at ne at' i vs u t o in
@@ -160,7 +172,29 @@ module _ {S N E : Type 0} (m : Meaning S N E) (ok : Lawful m) (p : S) where
         let a = was i vs u ti oi in
         let b = was j ws w tj oj in
         meet id other i j a.seat b.seat (k.one a.seat b.seat a.views b.views u w x a.at b.at a.there b.there qi qj) a.spent b.spent a.place b.place;
+      pair = λ i u y x t oi oj. ⊎_elim
+        (λ a. let l : length (u ∷ (y ∷ [])) ≡ 0 = ap length (sym a.1) in absurd (omega arith))
+        (λ a. ⊎_elim
+          (λ b.
+            let P : View E N → Type 0 = λ z. In x z.keeps in
+            let first : v' ≡ u = ap (λ (z : List (View E N)). sight z) b.1 in
+            let next : w' ≡ y = ap (λ (z : List (View E N)). second z) b.1 in
+            let there : get_elem? s.views other ≡ some w = sym (set_else s.views id other (v ++ w) ne) ∙ at' in
+            ne (k.one other id w v w' v' x there at (inl refl) (inl refl) (subst P (sym next) oj) (subst P (sym first) oi)))
+          (λ b. k.pair i u y x b.1 oi oj)
+          (at_set s.views id i (v ++ w) (u ∷ (y ∷ [])) a.1))
+        (at_set (set s.views id (v ++ w)) other i [] (u ∷ (y ∷ [])) t);
     })
+
+  -- a seat takes in the view of another
+  pub joins_said : (id other : ℕ) (v w : List (View E N)) → length v ≡ 1 → length w ≡ 1 → Joins (Kept m p) id v other w (v ++ w) []
+  joins_said id other v w one single =
+    let P : List (View E N) → Type 0 = λ t. Joins (Kept m p) id t other w (t ++ w) [] in
+    let Q : List (View E N) → Type 0 = λ t. Joins (Kept m p) id (sight v ∷ []) other t ((sight v ∷ []) ++ t) [] in
+    subst P (sym (single_view v one)) (subst Q (sym (single_view w single)) (joins_two id other (sight v) (sight w)))
+
+  root_more : (x : N) (xs ys : List (ℕ × E)) → ((a : ℕ × E) → In a xs → In a ys) → In x (m.fixed p) ⊎ Made m x xs → In x (m.fixed p) ⊎ Made m x ys
+  root_more x xs ys f h = ⊎_elim (λ t. inl t) (λ t. inr (t.0, f t.0 t.1, t.2)) h
 
   view_joined : (log : List (ℕ × E)) (v w : View E N) → IsLog m p log → IsView m p log v → IsView m p log w → IsView m p log (joined v w)
   view_joined log v w g h k =
@@ -173,11 +207,14 @@ module _ {S N E : Type 0} (m : Meaning S N E) (ok : Lawful m) (p : S) where
         (λ u. union_right b v.seen w.seen (k.whole x u b o about))
         (in_append x v.keeps w.keeps t);
       lives = λ x t b o ends. ⊎_elim (λ u. h.lives x u b o ends) (λ u. k.lives x u b o ends) (in_append x v.keeps w.keeps t);
-      rooted = λ x t. ⊎_elim (λ u. h.rooted x u) (λ u. k.rooted x u) (in_append x v.keeps w.keeps t);
+      rooted = λ x t. ⊎_elim
+        (λ u. root_more x v.seen (union v.seen w.seen) (λ a o. union_left 0 a v.seen w.seen h.part.rises one o) (h.rooted x u))
+        (λ u. root_more x w.seen (union v.seen w.seen) (λ a o. union_right a v.seen w.seen o) (k.rooted x u))
+        (in_append x v.keeps w.keeps t);
     }
 
-  together : (log : List (ℕ × E)) (v w : View E N) → IsLog m p log → IsView m p log v → IsView m p log w → Together m p v w
-  together log v w g h k =
+  together : (log : List (ℕ × E)) (v w : View E N) → IsLog m p log → IsView m p log v → IsView m p log w → ((x : N) → In x v.keeps → In x w.keeps → ⊥) → Together m p v w
+  together log v w g h k apart =
     let one = parts_one m log v.seen w.seen g.rises h.part k.part in
     let all = view_joined log v w g h k in
     let left : (a : ℕ × E) → In a v.seen → In a (union v.seen w.seen) = λ a t. union_left 0 a v.seen w.seen h.part.rises one t in
@@ -189,7 +226,9 @@ module _ {S N E : Type 0} (m : Meaning S N E) (ok : Lawful m) (p : S) where
       right_part = part_within m log w.seen (union v.seen w.seen) k.part all.part right;
       mine = λ x t. same_chain m x v.seen (union v.seen w.seen) h.part.rises all.part.rises left (λ b o about. h.whole x t b (all.part.within b o) about);
       theirs = λ x t. same_chain m x w.seen (union v.seen w.seen) k.part.rises all.part.rises right (λ b o about. k.whole x t b (all.part.within b o) about);
+      apart = apart;
       legal = all.legal;
+      sound = sound_view m p log (joined v w) all;
     }
 
   settle_some : (slots id : ℕ) (me : Me (Unit {0}) (List (View E N))) (v w : View E N) → me.0 ≡ v ∷ (w ∷ []) → me.1 ≡ [] → Allows (Kept m p) slots id me 0 (λ n. n) (λ _. settles_as m (Some p) me)
@@ -203,7 +242,7 @@ module _ {S N E : Type 0} (m : Meaning S N E) (ok : Lawful m) (p : S) where
     let k' : KeptBy m p log (length log ∷ []) s.views = subst K k.word k in
     let After : List ℕ → Type 0 = λ ws. (z : List (View E N)) × (a : Act (Unit {0})) × Valid s.homes me.1 a × Kept m p record { words = slice_set ws 0 (slice_index ws 0); homes = homes_after s.homes me.1 a; views = slice_set s.views id z } × settles_as m (Some p) me (z, carried_after me.1 a) in
     let j = joined v w in
-    let set_kept : KeptBy m p log (length log ∷ []) (set s.views id (j ∷ [])) = kept_set log (length log ∷ []) s.views id (v ∷ (w ∷ [])) (j ∷ []) k' at'
+    let set_kept : KeptBy m p log (length log ∷ []) (set s.views id (j ∷ [])) = kept_set log (length log ∷ []) s.views id (v ∷ (w ∷ [])) (j ∷ []) refl k' at'
       (λ u t. let Q : View E N → Type 0 = λ y. IsView m p log y in subst Q (sym (in_one u j t)) (view_joined log v w k.history h h'))
       (λ u x t o. let P : View E N → Type 0 = λ y. In x y.keeps in ⊎_elim (λ f. (v, inl refl, f)) (λ f. (w, inr (inl refl), f)) (in_append x v.keeps w.keeps (subst P (in_one u j t) o))) in
     let tells : (v' u : View E N) → me.0 ≡ v' ∷ (u ∷ []) → (j ∷ [] ≡ joined v' u ∷ []) × (me.1 ≡ []) × Together m p v' u
@@ -213,13 +252,8 @@ module _ {S N E : Type 0} (m : Meaning S N E) (ok : Lawful m) (p : S) where
         let b : w ≡ u = ap (λ (t : List (View E N)). second t) pair in
         let P : View E N → Type 0 = λ y. (j ∷ [] ≡ joined y u ∷ []) × (me.1 ≡ []) × Together m p y u in
         let Q : View E N → Type 0 = λ y. (j ∷ [] ≡ joined v y ∷ []) × (me.1 ≡ []) × Together m p v y in
-        subst P a (subst Q b (refl, bare, together log v w k.history h h')) in
+        subst P a (subst Q b (refl, bare, together log v w k.history h h' (λ x t u. k.pair id v w x at' t u))) in
     subst After (sym k.word) (j ∷ [], keeps, tt, (log, set_kept), tells)
-    where
-    second : List (View E N) → View E N
-    second [] = view [] []
-    second (x ∷ []) = view [] []
-    second (x ∷ (y ∷ ys)) = y
 
   pub settle_said : (said : Option S) (slots id : ℕ) (me : Me (Unit {0}) (List (View E N))) (v w : List (View E N)) → me.0 ≡ v ++ w → length v ≡ 1 → length w ≡ 1 → me.1 ≡ [] → IsSomeAnd said (λ q. q ≡ p) → Allows (Kept m p) slots id me 0 (λ n. n) (λ _. settles_as m said me)
   settle_said None slots id me v w both one other bare is = absurd is
@@ -249,7 +283,8 @@ module _ {S N E : Type 0} (m : Meaning S N E) (ok : Lawful m) (p : S) where
     let After : List ℕ → Type 0 = λ ws. (z : List (View E N)) × (a : Act (Unit {0})) × Valid s.homes me.1 a × Kept m p record { words = slice_set ws 0 (slice_index ws 0); homes = homes_after s.homes me.1 a; views = slice_set s.views id z } × looks_as m (Some p) me (z, carried_after me.1 a) in
     let C : List (List (View E N)) → Type 0 = λ vs. KeptBy m p log (length log ∷ []) vs in
     let L : List (View E N) → Type 0 = λ vs. Legal m p (sight vs).seen in
-    subst After (sym k.word) (me.0, keeps, tt, (log, subst C (sym (set_again s.views id me.0 at)) k'), (refl, subst L (sym one) h.legal))
+    let G : List (View E N) → Type 0 = λ vs. IsSound m p (sight vs) in
+    subst After (sym k.word) (me.0, keeps, tt, (log, subst C (sym (set_again s.views id me.0 at)) k'), (refl, subst L (sym one) h.legal, subst G (sym one) (sound_view m p log v h)))
 
   pub look_said : (said : Option S) (slots id : ℕ) (me : Me (Unit {0}) (List (View E N))) → length me.0 ≡ 1 → IsSomeAnd said (λ q. q ≡ p) → Allows (Kept m p) slots id me 0 (λ n. n) (λ _. looks_as m said me)
   look_said None slots id me one is = absurd is
