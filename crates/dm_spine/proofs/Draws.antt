@@ -1,7 +1,6 @@
 -- A draw keeps the rule.
-use Rattle.std.proofs.Common.{◌≡◌, ◌≢◌, ℕ, zero, suc, ◌+◌, ◌%◌, ◌^◌, ◌<◌, ◌≤◌, ◌⊎◌, Bool, true, false, not, Option, Some, None, IsSomeAnd, List, [], ◌∷◌, ◌++◌, length, filter, set, nat_lt, cond, slice_index, slice_set, refl, sym, ap, ◌∙◌, subst, inl, inr, ⊎_elim, le_trans, lt_of_le_of_lt, mod-eq_of_lt, append-nil, length-append, arith}
-use Rattle.std.proofs.lemmas.Bool.{true≢false, not-true, cases_Bool, lt-ltb, le-ltb}
-use Rattle.std.proofs.lemmas.List.Elements.{filter-append}
+use Rattle.std.proofs.Common.{◌≡◌, ◌≢◌, ℕ, zero, suc, ◌+◌, ◌%◌, ◌^◌, ◌<◌, ◌≤◌, ◌⊎◌, Bool, true, false, not, Option, Some, None, IsSomeAnd, List, [], ◌∷◌, ◌++◌, length, filter, set, slice_index, slice_set, refl, sym, ap, ◌∙◌, subst, inl, inr, ⊎_elim, le_trans, lt_of_le_of_lt, mod-eq_of_lt, length-append, arith}
+use Rattle.std.proofs.lemmas.Bool.{true≢false, not-true, cases_Bool}
 use mathlib.Core.Option.{some}
 use lib.ListN.{get_elem?}
 use Rattle.atomic_table.specs.Table.{State, Me, Act, Valid, Allows, stepped, homes_after, carried_after}
@@ -11,38 +10,10 @@ use Rattle.dm_spine.specs.Past.{Meaning, Lawful, In, Rises, below, IsAbove, chai
 use Rattle.dm_spine.specs.Rule.{view, sight, drawn, IsView, IsLog, KeptBy, Kept, MayDraw, Draws}
 use Rattle.dm_spine.specs.Steps.{draws_as}
 use Rattle.dm_spine.specs.declared.rule.View.{View}
-use Rattle.dm_spine.proofs.Lists.{in_left, in_right, in_append, in_filter, filter_in, rises_low, rises_filter, rises_last, same_members}
+use Rattle.dm_spine.proofs.Lists.{in_left, in_right, in_append, in_filter, filter_in, rises_low, rises_filter, rises_last, same_members, below_all, below-last}
 use Rattle.dm_spine.proofs.Portions.{same_count}
 use Rattle.dm_spine.proofs.Counts.{short, at_home-last, at_home-more, at_home-other}
 use Rattle.dm_spine.proofs.Seats.{in_one, not_two, single_view, sound_view}
-
-module _ {A : Type 0} where
-  passed : (b : Bool) (x : A) (xs ys : List A) → b ≡ true → ys ≡ xs → cond b (x ∷ ys) ys ≡ x ∷ xs
-  passed true x xs ys e q = ap (λ t. x ∷ t) q
-  passed false x xs ys e q = absurd (true≢false (sym e))
-
-  pub filter_all : (p : A → Bool) (xs : List A) → ((a : A) → In a xs → p a ≡ true) → filter p xs ≡ xs
-  filter_all p [] h = refl
-  filter_all p (x ∷ xs) h = passed (p x) x xs (filter p xs) (h x (inl refl)) (filter_all p xs (λ a t. h a (inr t)))
-
-  failed : (b : Bool) (z : A) → b ≡ false → cond b (z ∷ []) [] ≡ []
-  failed true z e = absurd (true≢false e)
-  failed false z e = refl
-
-  pub filter-last_out : (p : A → Bool) (xs : List A) (z : A) → p z ≡ false → filter p (xs ++ z ∷ []) ≡ filter p xs
-  filter-last_out p xs z e = filter-append p xs (z ∷ []) ∙ ap (λ t. filter p xs ++ t) (failed (p z) z e) ∙ append-nil (filter p xs)
-
-  pub filter-last_in : (p : A → Bool) (xs : List A) (z : A) → p z ≡ true → filter p (xs ++ z ∷ []) ≡ filter p xs ++ z ∷ []
-  filter-last_in p xs z e = filter-append p xs (z ∷ []) ∙ ap (λ t. filter p xs ++ t) (passed (p z) z [] [] e refl)
-
-module _ {E : Type 0} where
-  -- what stands below a number that is above all
-  pub below_all : (n : ℕ) (xs : List (ℕ × E)) → IsAbove n xs → below n xs ≡ xs
-  below_all n xs h = filter_all (λ t. nat_lt t.0 n) xs (λ a t. lt-ltb a.0 n (h a t))
-
-  -- a last entry changes nothing below itself
-  pub below-last : (k : ℕ) (xs : List (ℕ × E)) (z : ℕ × E) → k ≤ z.0 → below k (xs ++ z ∷ []) ≡ below k xs
-  below-last k xs z l = filter-last_out (λ t. nat_lt t.0 k) xs z (le-ltb z.0 k l)
 
 module _ {S N E : Type 0} (m : Meaning S N E) (ok : Lawful m) (p : S) where
   pub made_more : (x : N) (xs ys : List (ℕ × E)) → ((a : ℕ × E) → In a xs → In a ys) → Made m x xs → Made m x ys

@@ -47,7 +47,7 @@ module _ {S N E : Type 0} (m : Meaning S N E) where
   pub same_chain : (x : N) (xs ys : List (ℕ × E)) → Rises 0 xs → Rises 0 ys → ((a : ℕ × E) → In a xs → In a ys) → ((b : ℕ × E) → In b ys → m.about b.1 x ≡ true → In b xs) → chain m x ys ≡ chain m x xs
   same_chain x xs ys r s f g = same_filter (λ a. m.about a.1 x) ys xs s r g (λ a h t. f a h)
 
-  at_home_about : (ok : Lawful m) (h : N) (a : ℕ × E) → m.same (m.home a.1) h ≡ true → m.about a.1 h ≡ true
+  pub at_home_about : (ok : Lawful m) (h : N) (a : ℕ × E) → m.same (m.home a.1) h ≡ true → m.about a.1 h ≡ true
   at_home_about ok h a e = let P : N → Type 0 = λ n. m.about a.1 n ≡ true in subst P (ok.same_is (m.home a.1) h e) (ok.home_about a.1)
 
   -- likewise how many entries are at home there

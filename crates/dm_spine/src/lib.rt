@@ -19,3 +19,6 @@ pub use rule::{Ruled, View};
 
 
 
+
+#[cfg(test)]
+mod tests;
