@@ -1,7 +1,7 @@
 -- Parts of a history: with an entry they have each earlier one about the same name.
-use Rattle.std.proofs.Common.{◌≡◌, ℕ, ◌+◌, ◌<◌, ◌≤◌, ◌⊎◌, Bool, true, false, cond, List, [], ◌∷◌, ◌++◌, length, filter, nat_lt, slice_get, Some, refl, sym, ap, ◌∙◌, subst, inl, inr, ⊎_elim, arith}
-use Rattle.dm_spine.specs.Past.{Meaning, Lawful, In, Rises, below, IsAbove, insert, union, has, chain, at_home, Made, IsPart, Fits, Legal, Agree}
-use Rattle.dm_spine.proofs.Lists.{in_left, in_right, in_append, in_filter, filter_in, rises_low, rises_from, rises_filter, rises_last, same_filter, same_members, in_below, below_in, rises_union, in_union, union_left, union_right, OneAt}
+use Rattle.std.proofs.Common.{◌≡◌, ℕ, ◌+◌, ◌<◌, ◌≤◌, ◌⊎◌, true, List, [], ◌∷◌, length, sym, ap, ◌∙◌, subst, inl, inr, ⊎_elim, arith}
+use Rattle.dm_spine.specs.Past.{Meaning, Lawful, In, Rises, union, chain, at_home, IsPart}
+use Rattle.dm_spine.proofs.Lists.{rises_low, same_filter, rises_union, in_union, union_left, union_right, OneAt}
 
 module _ {E : Type 0} where
   both_at : (low : ℕ) (xs : List (ℕ × E)) → Rises low xs → OneAt xs xs

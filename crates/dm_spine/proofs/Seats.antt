@@ -1,13 +1,12 @@
 -- Views of seats: what becomes of them where a seat's views change, and what each kind of view keeps.
-use Rattle.std.proofs.Common.{◌≡◌, ◌≢◌, ℕ, zero, suc, ◌+◌, ◌<◌, ◌≤◌, ◌⊎◌, Bool, true, false, not, ◌||◌, List, [], ◌∷◌, ◌++◌, length, filter, set, refl, sym, ap, ◌∙◌, subst, inl, inr, ⊎_elim, arith}
+use Rattle.std.proofs.Common.{◌≡◌, ℕ, zero, suc, ◌⊎◌, true, false, not, List, [], ◌∷◌, ◌++◌, length, refl, sym, ap, ◌∙◌, subst, inl, inr, ⊎_elim, arith}
 use Rattle.std.proofs.lemmas.Bool.{true≢false, or_cases, or_left, or_right, not-true, not_from_false}
 use mathlib.Core.Option.{some, some-injective, some-ne-none}
 use lib.ListN.{get_elem?}
-use Rattle.atomic_table.proofs.Lists.{at_set, set_else}
-use Rattle.dm_spine.specs.Past.{Meaning, Lawful, In, has, Made, IsPart}
+use Rattle.dm_spine.specs.Past.{Meaning, Lawful, In, has}
 use Rattle.dm_spine.specs.Rule.{view, sight, without, IsView, IsSound}
 use Rattle.dm_spine.specs.declared.rule.View.{View}
-use Rattle.dm_spine.proofs.Lists.{in_left, in_right, in_append, in_filter, filter_in}
+use Rattle.dm_spine.proofs.Lists.{in_filter, filter_in}
 
 module _ {A : Type 0} where
   -- a list of one

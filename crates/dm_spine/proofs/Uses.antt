@@ -1,15 +1,15 @@
 -- What users of a spine rest on: chains and counts after a draw, and where a name goes there and back.
-use Rattle.std.proofs.Common.{◌≡◌, ℕ, zero, suc, ◌+◌, ◌<◌, ◌≤◌, ◌⊎◌, Bool, true, false, not, cond, List, [], ◌∷◌, ◌++◌, length, filter, slice_get, Some, refl, sym, ap, ◌∙◌, subst, inl, inr, ⊎_elim, arith}
+use Rattle.std.proofs.Common.{◌≡◌, ℕ, zero, suc, ◌+◌, ◌<◌, ◌⊎◌, Bool, true, false, not, cond, List, [], ◌∷◌, ◌++◌, length, filter, Some, refl, sym, ap, ◌∙◌, subst, inl, inr, ⊎_elim, arith}
 use Rattle.std.proofs.lemmas.Bool.{true≢false, not_from_false, false_from_ne_true}
 use Rattle.std.proofs.lemmas.List.Elements.{filter-append}
-use Rattle.dm_spine.specs.Past.{Meaning, Lawful, In, Rises, IsAbove, below, has, chain, at_home, union, Made, IsPart, Fits, Legal, Agree}
-use Rattle.dm_spine.specs.Rule.{view, joined, without, IsSound, MayDraw, Draws, Together, Gives}
+use Rattle.dm_spine.specs.Past.{Meaning, Lawful, In, Rises, has, chain, at_home, union, IsPart, Fits, Legal, Agree}
+use Rattle.dm_spine.specs.Rule.{IsSound, Draws, Together, Gives}
 use Rattle.dm_spine.specs.declared.rule.View.{View}
-use Rattle.dm_spine.proofs.Lists.{in_left, in_right, in_append, in_filter, filter_in, rises_filter, rises_front, rises_union, filter-last_in, filter-last_out, below_front, begins}
+use Rattle.dm_spine.proofs.Lists.{in_left, in_right, in_append, in_filter, filter_in, rises_filter, rises_front, filter-last_in, filter-last_out, below_front, begins}
 use Rattle.dm_spine.proofs.Portions.{at_home_about, parts_one}
 use Rattle.dm_spine.proofs.Legality.{At}
 use Rattle.dm_spine.proofs.Counts.{at_home-more, at_home-other}
-use Rattle.dm_spine.proofs.Seats.{in_one, has_in, has_it, in_without, without_in}
+use Rattle.dm_spine.proofs.Seats.{in_one, has_in, in_without, without_in}
 
 module _ {S N E : Type 0} (m : Meaning S N E) where
   pub chain-append : (x : N) (xs ys : List (ℕ × E)) → chain m x (xs ++ ys) ≡ chain m x xs ++ chain m x ys
@@ -31,8 +31,8 @@ module _ {S N E : Type 0} (m : Meaning S N E) where
   -- what a past has of a name's chain begins the chain
   pub chain_begins : (x : N) (xs log : List (ℕ × E)) → Rises 0 log → IsPart m xs log → (rest : List (ℕ × E)) × (chain m x log ≡ chain m x xs ++ rest)
   chain_begins x xs log r v =
-    let p : ℕ × E → Bool = λ a. m.about a.1 x in
-    begins 0 0 (chain m x xs) (chain m x log) (rises_filter p 0 xs v.rises) (rises_filter p 0 log r)
+      let p : ℕ × E → Bool = λ a. m.about a.1 x in
+      begins 0 0 (chain m x xs) (chain m x log) (rises_filter p 0 xs v.rises) (rises_filter p 0 log r)
       (λ a t. let k = in_filter p a xs t in filter_in p a log (v.within a k.0) k.1)
       (λ a b t o l. let k = in_filter p a xs t in let j = in_filter p b log o in filter_in p b xs (v.chained x a b k.0 j.0 l k.1 j.1) j.1)
 
@@ -43,8 +43,8 @@ module _ {S N E : Type 0} (m : Meaning S N E) where
 
   at_chain : (x : N) (xs log : List (ℕ × E)) → Rises 0 log → IsPart m xs log → (i : ℕ) (a : ℕ × E) → At (chain m x xs) i a → At (chain m x log) i a
   at_chain x xs log r v i a e =
-    let t = chain_begins x xs log r v in
-    let P : List (ℕ × E) → Type 0 = λ c. At c i a in subst P (sym t.1) (at_front (chain m x xs) t.0 i a e)
+      let t = chain_begins x xs log r v in
+      let P : List (ℕ × E) → Type 0 = λ c. At c i a in subst P (sym t.1) (at_front (chain m x xs) t.0 i a e)
 
   -- two parts of one history agree
   pub parts_agree : (log xs ys : List (ℕ × E)) → Rises 0 log → IsPart m xs log → IsPart m ys log → Agree m xs ys
@@ -61,8 +61,8 @@ module _ {S N E : Type 0} (m : Meaning S N E) where
   -- in a legal past, sorted by the numbers, each entry may come after the entries before it
   pub fits_run : (p : S) (n : ℕ) (ys zs : List (ℕ × E)) (e : E) → Rises 0 (ys ++ (n, e) ∷ zs) → Legal m p (ys ++ (n, e) ∷ zs) → Fits m p ys e
   fits_run p n ys zs e r legal =
-    let P : List (ℕ × E) → Type 0 = λ xs. Fits m p xs e in
-    subst P (below_front ys zs (n, e) r) (legal n e (in_right (n, e) ys ((n, e) ∷ zs) (inl refl)))
+      let P : List (ℕ × E) → Type 0 = λ xs. Fits m p xs e in
+      subst P (below_front ys zs (n, e) r) (legal n e (in_right (n, e) ys ((n, e) ∷ zs) (inl refl)))
 
 module _ {S N E : Type 0} (m : Meaning S N E) (p : S) (e : E) (v : View E N) (n : ℕ) (w : View E N) (d : Draws m p e v n w) where
   pub drawn_seen : w.seen ≡ v.seen ++ (n, e) ∷ []
@@ -76,16 +76,16 @@ module _ {S N E : Type 0} (m : Meaning S N E) (p : S) (e : E) (v : View E N) (n 
 
   pub drawn_part : IsPart m v.seen w.seen
   drawn_part =
-    let P : List (ℕ × E) → Type 0 = λ xs. IsPart m v.seen xs in
-    let R : List (ℕ × E) → Type 0 = λ xs. Rises 0 xs in
-    subst P (sym drawn_seen) record {
-      rises = rises_front 0 v.seen ((n, e) ∷ []) (subst R drawn_seen d.sound.rises);
-      within = λ a t. in_left a v.seen ((n, e) ∷ []) t;
-      chained = λ x a b t k l about about'. ⊎_elim
-        (λ u. u)
-        (λ u. let q : b.0 ≡ n = ap (λ (c : ℕ × E). c.0) (in_one b (n, e) u) in let lt : a.0 < n = d.above a t in absurd (omega arith))
-        (in_append b v.seen ((n, e) ∷ []) k);
-    }
+      let P : List (ℕ × E) → Type 0 = λ xs. IsPart m v.seen xs in
+      let R : List (ℕ × E) → Type 0 = λ xs. Rises 0 xs in
+      subst P (sym drawn_seen) record {
+        rises = rises_front 0 v.seen ((n, e) ∷ []) (subst R drawn_seen d.sound.rises);
+        within = λ a t. in_left a v.seen ((n, e) ∷ []) t;
+        chained = λ x a b t k l about about'. ⊎_elim
+            (λ u. u)
+            (λ u. let q : b.0 ≡ n = ap (λ (c : ℕ × E). c.0) (in_one b (n, e) u) in let lt : a.0 < n = d.above a t in absurd (omega arith))
+            (in_append b v.seen ((n, e) ∷ []) k);
+      }
 
   -- the chain of a name that the entry is about has the entry at its end; each other chain stays
   pub drawn_chain : (x : N) → m.about e x ≡ true → chain m x w.seen ≡ chain m x v.seen ++ (n, e) ∷ []
@@ -97,8 +97,8 @@ module _ {S N E : Type 0} (m : Meaning S N E) (p : S) (e : E) (v : View E N) (n 
   -- a kept name that the entry does not end is still kept, and so is each that it makes
   pub still_kept : (x : N) → In x v.keeps → m.ends e x ≡ false → In x w.keeps
   still_kept x h f =
-    let P : List N → Type 0 = λ xs. In x xs in
-    subst P (sym drawn_keeps) (in_left x (filter (λ y. not (m.ends e y)) v.keeps) (m.makes n e) (filter_in (λ y. not (m.ends e y)) x v.keeps h (not_from_false (m.ends e x) f)))
+      let P : List N → Type 0 = λ xs. In x xs in
+      subst P (sym drawn_keeps) (in_left x (filter (λ y. not (m.ends e y)) v.keeps) (m.makes n e) (filter_in (λ y. not (m.ends e y)) x v.keeps h (not_from_false (m.ends e x) f)))
 
   pub made_kept : (x : N) → In x (m.makes n e) → In x w.keeps
   made_kept x h = let P : List N → Type 0 = λ xs. In x xs in subst P (sym drawn_keeps) (in_right x (filter (λ y. not (m.ends e y)) v.keeps) (m.makes n e) h)
@@ -141,13 +141,13 @@ module _ {S N E : Type 0} (m : Meaning S N E) (ok : Lawful m) (p : S) (x : N) (v
   -- the giver keeps its other names
   pub other_kept : (y : N) → In y v.keeps → (y ≡ x → ⊥) → In y v'.keeps
   other_kept y h ne =
-    let P : View E N → Type 0 = λ u. In y u.keeps in
-    subst P (sym g.left) (without_in m ok y (x ∷ []) v.keeps h (has_not m ok y (x ∷ []) (λ t. ne (in_one y x t))))
+      let P : View E N → Type 0 = λ u. In y u.keeps in
+      subst P (sym g.left) (without_in m ok y (x ∷ []) v.keeps h (has_not m ok y (x ∷ []) (λ t. ne (in_one y x t))))
 
   pub given_away : (y : N) → In y v'.keeps → In y v.keeps × (y ≡ x → ⊥)
   given_away y h =
-    let P : View E N → Type 0 = λ u. In y u.keeps in
-    let t = in_without m ok y (x ∷ []) v.keeps (subst P g.left h) in (t.0, λ e. t.1 (inl e))
+      let P : View E N → Type 0 = λ u. In y u.keeps in
+      let t = in_without m ok y (x ∷ []) v.keeps (subst P g.left h) in (t.0, λ e. t.1 (inl e))
 
   -- the taker keeps the name and all of its own
   pub given_name : In x w'.keeps
@@ -158,8 +158,8 @@ module _ {S N E : Type 0} (m : Meaning S N E) (ok : Lawful m) (p : S) (x : N) (v
 
   pub given_from : (y : N) → In y w'.keeps → In y w.keeps ⊎ (y ≡ x)
   given_from y h =
-    let P : View E N → Type 0 = λ u. In y u.keeps in
-    ⊎_elim (λ t. inl t) (λ t. inr (in_one y x t)) (in_append y w.keeps (x ∷ []) (subst P g.given h))
+      let P : View E N → Type 0 = λ u. In y u.keeps in
+      ⊎_elim (λ t. inl t) (λ t. inr (in_one y x t)) (in_append y w.keeps (x ∷ []) (subst P g.given h))
 
   -- the taker has the giver's chain of the name, and its own chains stay
   pub given_chain : chain m x w'.seen ≡ chain m x v.seen
@@ -189,11 +189,11 @@ module _ {S N E : Type 0} (m : Meaning S N E) (ok : Lawful m) (p : S) (x : N) (e
 
   pub handed_home : m.home e ≡ x → at_home m x k2.seen ≡ at_home m x k.seen + 1
   handed_home q =
-    let P : N → Type 0 = λ y. at_home m y w2.seen ≡ at_home m y w1.seen + 1 in
-    let more : at_home m x w2.seen ≡ at_home m x w1.seen + 1 = subst P q (home_more m p e w1 n w2 drew ok) in
-    let last = same_home m ok x k2.seen w2.seen (given_chain m ok p x w2 k1 w3 k2 back) in
-    let first = same_home m ok x w1.seen k.seen (given_chain m ok p x k w k1 w1 there) in
-    omega arith
+      let P : N → Type 0 = λ y. at_home m y w2.seen ≡ at_home m y w1.seen + 1 in
+      let more : at_home m x w2.seen ≡ at_home m x w1.seen + 1 = subst P q (home_more m p e w1 n w2 drew ok) in
+      let last = same_home m ok x k2.seen w2.seen (given_chain m ok p x w2 k1 w3 k2 back) in
+      let first = same_home m ok x w1.seen k.seen (given_chain m ok p x k w k1 w1 there) in
+      omega arith
 
   pub handed_kept : In x k2.keeps
   handed_kept = given_name m ok p x w2 k1 w3 k2 back
@@ -201,8 +201,8 @@ module _ {S N E : Type 0} (m : Meaning S N E) (ok : Lawful m) (p : S) (x : N) (e
   -- the other names of the first pass, and their chains, stay
   pub handed_others : (y : N) → In y k.keeps → (y ≡ x → ⊥) → In y k2.keeps × (chain m y k2.seen ≡ chain m y k.seen)
   handed_others y h ne =
-    let kept = other_kept m ok p x k w k1 w1 there y h ne in
-    (given_kept m ok p x w2 k1 w3 k2 back y kept, given_other m ok p x w2 k1 w3 k2 back y kept ∙ ap (λ (xs : List (ℕ × E)). chain m y xs) (given_left_seen m ok p x k w k1 w1 there))
+      let kept = other_kept m ok p x k w k1 w1 there y h ne in
+      (given_kept m ok p x w2 k1 w3 k2 back y kept, given_other m ok p x w2 k1 w3 k2 back y kept ∙ ap (λ (xs : List (ℕ × E)). chain m y xs) (given_left_seen m ok p x k w k1 w1 there))
 
   -- the names of the pass that drew are still its own, and have the entry at the end of their chains where it is about them
   pub handed_mine : (y : N) → In y w.keeps → (y ≡ x → ⊥) → m.ends e y ≡ false → In y w3.keeps
@@ -216,5 +216,5 @@ module _ {S N E : Type 0} (m : Meaning S N E) (ok : Lawful m) (p : S) (x : N) (e
 
   pub handed_part : IsPart m w.seen w3.seen
   handed_part =
-    let P : List (ℕ × E) → Type 0 = λ xs. IsPart m w.seen xs in
-    subst P (sym (given_left_seen m ok p x w2 k1 w3 k2 back)) (part_then m w.seen w1.seen w2.seen (given_part m ok p x k w k1 w1 there) (drawn_part m p e w1 n w2 drew))
+      let P : List (ℕ × E) → Type 0 = λ xs. IsPart m w.seen xs in
+      subst P (sym (given_left_seen m ok p x w2 k1 w3 k2 back)) (part_then m w.seen w1.seen w2.seen (given_part m ok p x k w k1 w1 there) (drawn_part m p e w1 n w2 drew))

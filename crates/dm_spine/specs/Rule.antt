@@ -53,7 +53,6 @@ module _ {S N E : Type 0} (m : Meaning S N E) where
     pub known : (i : ℕ) (vs : List (View E N)) (v : View E N) → get_elem? seats i ≡ some vs → In v vs → IsView p log v
     -- a name has one seat at most that keeps it
     pub one : (i j : ℕ) (vs ws : List (View E N)) (v w : View E N) (x : N) → get_elem? seats i ≡ some vs → get_elem? seats j ≡ some ws → In v vs → In w ws → In x v.keeps → In x w.keeps → i ≡ j
-
     -- also while a join is under way
     pub pair : (i : ℕ) (v w : View E N) (x : N) → get_elem? seats i ≡ some (v ∷ (w ∷ [])) → In x v.keeps → In x w.keeps → ⊥
 

@@ -1,5 +1,5 @@
 -- What each kind of step does to the views of a seat. What is said is picked by the call, for the proof alone.
-use Rattle.std.specs.Prelude.{◌≡◌, ℕ, Option, Some, None, IfSome, List, [], ◌∷◌, unwrap_or}
+use Rattle.std.specs.Prelude.{◌≡◌, ℕ, Option, IfSome, List, [], ◌∷◌, unwrap_or}
 use Rattle.atomic_table.specs.Table.{Me}
 use Rattle.dm_spine.specs.Past.{Meaning, Legal}
 use Rattle.dm_spine.specs.Rule.{view, sight, joined, without, Draws, Together, IsSound}

@@ -17,8 +17,5 @@ pub use parts::{Note, Parts};
 pub use pass::{Pass, Past, Spine};
 pub use rule::{Ruled, View};
 
-
-
-
 #[cfg(test)]
 mod tests;

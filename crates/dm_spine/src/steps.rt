@@ -15,7 +15,8 @@ pub(crate) struct Draw<P: Parts, W: Said<(P, P::Entry)>> {
     marker: PhantomData<(P, W)>,
 }
 
-impl<P: Parts, W: Said<(P, P::Entry)>> Play<(), LinkedList<View<P::Entry, P::Name>>> for Draw<P, W> {
+impl<P: Parts, W: Said<(P, P::Entry)>> Play<(), LinkedList<View<P::Entry, P::Name>>>
+    for Draw<P, W> {
     ghost then = { λ s v n w. draws_as P.meaning W.said v n w };
 }
 
@@ -24,7 +25,8 @@ pub(crate) struct Cut<P: Parts, W: Said<LinkedList<P::Name>>> {
     marker: PhantomData<(P, W)>,
 }
 
-impl<P: Parts, W: Said<LinkedList<P::Name>>> Split<LinkedList<View<P::Entry, P::Name>>> for Cut<P, W> {
+impl<P: Parts, W: Said<LinkedList<P::Name>>> Split<LinkedList<View<P::Entry, P::Name>>>
+    for Cut<P, W> {
     ghost left = { cut_left P.meaning W.said };
 
     ghost right = { cut_right W.said };

@@ -17,27 +17,27 @@ impl Parts for Counters {
     type Entry = u8;
 
     ghost meaning = { record {
-        same = λ x y. x == y;
-        fixed = λ _. 0 ∷ (1 ∷ []);
-        about = λ e x. e == x;
-        home = λ e. e;
-        makes = λ _ _. [];
-        ends = λ _ _. false;
-        maker = λ x. x;
-        needs = λ _ _ _. Unit {0};
-        follows = λ _ _ _ _. Unit {0};
+      same = λ x y. x == y;
+      fixed = λ _. 0 ∷ (1 ∷ []);
+      about = λ e x. e == x;
+      home = λ e. e;
+      makes = λ _ _. [];
+      ends = λ _ _. false;
+      maker = λ x. x;
+      needs = λ _ _ _. Unit {0};
+      follows = λ _ _ _ _. Unit {0};
     } };
 
     ghost lawful = { record {
-        same_is = λ x y e. eqb-true x y e;
-        same_self = λ x. eq-eqb x x refl;
-        home_about = λ e. eq-eqb e e refl;
-        ends_about = λ e x h. absurd (true≢false (sym h));
-        makes_about = λ n e x h. absurd h;
-        makes_loose = λ p n e x h t. h;
-        homes_stay = λ n e f h. h;
-        fixed_few = λ p. lit≤ tt;
-        needs_grow = λ p xs ys e part same h. tt;
+      same_is = λ x y e. eqb-true x y e;
+      same_self = λ x. eq-eqb x x refl;
+      home_about = λ e. eq-eqb e e refl;
+      ends_about = λ e x h. absurd (true≢false (sym h));
+      makes_about = λ n e x h. absurd h;
+      makes_loose = λ p n e x h t. h;
+      homes_stay = λ n e f h. h;
+      fixed_few = λ p. lit≤ tt;
+      needs_grow = λ p xs ys e part same h. tt;
     } };
 }
 

@@ -1,4 +1,4 @@
-use Rattle.std.proofs.Common.{ap, ◌∙◌, sym, arith}
+use Rattle.std.proofs.Common.{ap, ◌∙◌, arith}
 use Rattle.dm_spine.proofs.Shares.{joins_said, settle_said, settled}
 use Rattle.dm_spine.proofs.steps.join_at.Goals as goal
 
