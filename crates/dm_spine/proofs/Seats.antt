@@ -29,7 +29,7 @@ module _ {E N : Type 0} where
   single_view (v ∷ []) e = refl
   single_view (v ∷ (u ∷ us)) e = absurd (omega arith)
 
-module _ {S N E : Type 0} (m : Meaning S N E) (ok : Lawful m) where
+module _ {S N E : Type 0} {m : Meaning S N E} (ok : Lawful m) where
   has_first : (x y : N) (ys : List N) → m.same x y ≡ true → has m x (y ∷ ys) ≡ true
   has_first x y ys e = or_left (m.same x y) (has m x ys) e
 

@@ -82,10 +82,10 @@ module _ {S N E : Type 0} (m : Meaning S N E) (ok : Lawful m) (p : S) where
       let h = k.known id (v ∷ []) v at (inl refl) in
       let left = view v.seen (without m names v.keeps) in
       let right = view v.seen names in
-      let fewer : (x : N) → In x left.keeps → In x v.keeps × (In x names → ⊥) = λ x t. in_without m ok x names v.keeps t in
+      let fewer : (x : N) → In x left.keeps → In x v.keeps × (In x names → ⊥) = λ x t. in_without ok x names v.keeps t in
       let seats' = set seats id (left ∷ []) in
       let k' : KeptBy m p log words seats' = kept_set log words seats id (v ∷ []) (left ∷ []) refl k at
-      (λ u t. let Q : View E N → Type 0 = λ y. IsView m p log y in subst Q (sym (in_one u left t)) (view_fewer m ok p log v left.keeps (λ x o. (fewer x o).0) h))
+      (λ u t. let Q : View E N → Type 0 = λ y. IsView m p log y in subst Q (sym (in_one u left t)) (view_fewer ok p log v left.keeps (λ x o. (fewer x o).0) h))
       (λ u x t o. let P : View E N → Type 0 = λ y. In x y.keeps in (v, inl refl, (fewer x (subst P (in_one u left t) o)).0)) in
       let is_right : (vs : List (View E N)) (u : View E N) → right ∷ [] ≡ vs → In u vs → u ≡ right = λ vs u q t. let P : List (View E N) → Type 0 = λ ws. In u ws in in_one u right (subst P (sym q) t) in
       let is_left : (vs : List (View E N)) (u : View E N) → left ∷ [] ≡ vs → In u vs → u ≡ left = λ vs u q t. let P : List (View E N) → Type 0 = λ ws. In u ws in in_one u left (subst P (sym q) t) in
@@ -103,7 +103,7 @@ module _ {S N E : Type 0} (m : Meaning S N E) (ok : Lawful m) (p : S) where
         history = k.history;
         known = λ i vs u t o. ⊎_elim
             (λ w. k'.known i vs u w o)
-            (λ w. let Q : View E N → Type 0 = λ y. IsView m p log y in subst Q (sym (is_right vs u w.1 o)) (view_fewer m ok p log v names own h))
+            (λ w. let Q : View E N → Type 0 = λ y. IsView m p log y in subst Q (sym (is_right vs u w.1 o)) (view_fewer ok p log v names own h))
             (at_end seats' (right ∷ []) vs i t);
         one = λ i j vs ws u w x ti tj oi oj qi qj. ⊎_elim
             (λ a. ⊎_elim

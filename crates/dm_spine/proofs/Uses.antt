@@ -55,16 +55,19 @@ module _ {S N E : Type 0} (m : Meaning S N E) where
     some_same : (a b : ℕ × E) → Some a ≡ Some b → a ≡ b
     some_same a b e = cc
 
-  pub together_agree : (p : S) (v w : View E N) → Together m p v w → Agree m v.seen w.seen
-  together_agree p v w t = parts_agree (union v.seen w.seen) v.seen w.seen t.sound.rises t.left_part t.right_part
-
   -- in a legal past, sorted by the numbers, each entry may come after the entries before it
   pub fits_run : (p : S) (n : ℕ) (ys zs : List (ℕ × E)) (e : E) → Rises 0 (ys ++ (n, e) ∷ zs) → Legal m p (ys ++ (n, e) ∷ zs) → Fits m p ys e
   fits_run p n ys zs e r legal =
       let P : List (ℕ × E) → Type 0 = λ xs. Fits m p xs e in
       subst P (below_front ys zs (n, e) r) (legal n e (in_right (n, e) ys ((n, e) ∷ zs) (inl refl)))
 
-module _ {S N E : Type 0} (m : Meaning S N E) (p : S) (e : E) (v : View E N) (n : ℕ) (w : View E N) (d : Draws m p e v n w) where
+module _ {S N E : Type 0} {m : Meaning S N E} {p : S} {v w : View E N} (t : Together m p v w) where
+  -- passes that are joined had agreed
+  pub together_agree : Agree m v.seen w.seen
+  together_agree = parts_agree m (union v.seen w.seen) v.seen w.seen t.sound.rises t.left_part t.right_part
+
+-- What a draw tells.
+module _ {S N E : Type 0} {m : Meaning S N E} {p : S} {e : E} {v : View E N} {n : ℕ} {w : View E N} (d : Draws m p e v n w) where
   pub drawn_seen : w.seen ≡ v.seen ++ (n, e) ∷ []
   drawn_seen = ap (λ (u : View E N). u.seen) d.after
 
@@ -109,7 +112,7 @@ module _ {S N E : Type 0} (m : Meaning S N E) (p : S) (e : E) (v : View E N) (n 
   pub home_other : (ok : Lawful m) (h : N) → m.same (m.home e) h ≡ false → at_home m h w.seen ≡ at_home m h v.seen
   home_other ok h f = ap (λ (xs : List (ℕ × E)). at_home m h xs) drawn_seen ∙ at_home-other m ok h v.seen (n, e) f
 
-module _ {S N E : Type 0} (m : Meaning S N E) (ok : Lawful m) where
+module _ {S N E : Type 0} {m : Meaning S N E} (ok : Lawful m) where
   again : (p q : ℕ × E → Bool) → ((a : ℕ × E) → q a ≡ true → p a ≡ true) → (a : ℕ × E) (xs ys : List (ℕ × E)) (b : Bool) → p a ≡ b → filter q xs ≡ filter q ys → cond (q a) (a ∷ filter q xs) (filter q xs) ≡ filter q (cond b (a ∷ ys) ys)
   again p q f a xs ys true e h = ap (λ t. cond (q a) (a ∷ t) t) h
   again p q f a xs ys false e h = skipped (q a) a (filter q xs) (filter q ys) (λ g. true≢false (sym (f a g) ∙ e)) h where
@@ -129,9 +132,10 @@ module _ {S N E : Type 0} (m : Meaning S N E) (ok : Lawful m) where
   same_home h xs ys e = at_home-chain h xs ∙ ap (λ (c : List (ℕ × E)). at_home m h c) e ∙ sym (at_home-chain h ys)
 
   pub has_not : (x : N) (xs : List N) → (In x xs → ⊥) → has m x xs ≡ false
-  has_not x xs f = false_from_ne_true (has m x xs) (λ e. f (has_in m ok x xs e))
+  has_not x xs f = false_from_ne_true (has m x xs) (λ e. f (has_in ok x xs e))
 
-module _ {S N E : Type 0} (m : Meaning S N E) (ok : Lawful m) (p : S) (x : N) (v w v' w' : View E N) (g : Gives m p x v w v' w') where
+-- What the giving of a name tells.
+module _ {S N E : Type 0} {m : Meaning S N E} (ok : Lawful m) {p : S} {x : N} {v w v' w' : View E N} (g : Gives m p x v w v' w') where
   pub given_left_seen : v'.seen ≡ v.seen
   given_left_seen = ap (λ (u : View E N). u.seen) g.left
 
@@ -142,12 +146,12 @@ module _ {S N E : Type 0} (m : Meaning S N E) (ok : Lawful m) (p : S) (x : N) (v
   pub other_kept : (y : N) → In y v.keeps → (y ≡ x → ⊥) → In y v'.keeps
   other_kept y h ne =
       let P : View E N → Type 0 = λ u. In y u.keeps in
-      subst P (sym g.left) (without_in m ok y (x ∷ []) v.keeps h (has_not m ok y (x ∷ []) (λ t. ne (in_one y x t))))
+      subst P (sym g.left) (without_in ok y (x ∷ []) v.keeps h (has_not ok y (x ∷ []) (λ t. ne (in_one y x t))))
 
   pub given_away : (y : N) → In y v'.keeps → In y v.keeps × (y ≡ x → ⊥)
   given_away y h =
       let P : View E N → Type 0 = λ u. In y u.keeps in
-      let t = in_without m ok y (x ∷ []) v.keeps (subst P g.left h) in (t.0, λ e. t.1 (inl e))
+      let t = in_without ok y (x ∷ []) v.keeps (subst P g.left h) in (t.0, λ e. t.1 (inl e))
 
   -- the taker keeps the name and all of its own
   pub given_name : In x w'.keeps
@@ -181,40 +185,40 @@ module _ {S N E : Type 0} (m : Meaning S N E) (ok : Lawful m) (p : S) (x : N) (v
   given_sound = let P : View E N → Type 0 = λ u. IsSound m p u in subst P (sym g.given) g.together.sound
 
 -- A name goes from a pass k to a pass w, which draws one entry, and back. The views: k, k1, k2 and w, w1, w2, w3.
-module _ {S N E : Type 0} (m : Meaning S N E) (ok : Lawful m) (p : S) (x : N) (e : E) (n : ℕ) (k w k1 w1 w2 k2 w3 : View E N)
+module _ {S N E : Type 0} {m : Meaning S N E} (ok : Lawful m) {p : S} {x : N} {e : E} {n : ℕ} {k w k1 w1 w2 k2 w3 : View E N}
     (there : Gives m p x k w k1 w1) (drew : Draws m p e w1 n w2) (back : Gives m p x w2 k1 w3 k2) where
   -- its chain is the old one with the entry at its end
   pub handed : m.about e x ≡ true → chain m x k2.seen ≡ chain m x k.seen ++ (n, e) ∷ []
-  handed h = given_chain m ok p x w2 k1 w3 k2 back ∙ drawn_chain m p e w1 n w2 drew x h ∙ ap (λ (c : List (ℕ × E)). c ++ (n, e) ∷ []) (given_chain m ok p x k w k1 w1 there)
+  handed h = given_chain ok back ∙ drawn_chain drew x h ∙ ap (λ (c : List (ℕ × E)). c ++ (n, e) ∷ []) (given_chain ok there)
 
   pub handed_home : m.home e ≡ x → at_home m x k2.seen ≡ at_home m x k.seen + 1
   handed_home q =
       let P : N → Type 0 = λ y. at_home m y w2.seen ≡ at_home m y w1.seen + 1 in
-      let more : at_home m x w2.seen ≡ at_home m x w1.seen + 1 = subst P q (home_more m p e w1 n w2 drew ok) in
-      let last = same_home m ok x k2.seen w2.seen (given_chain m ok p x w2 k1 w3 k2 back) in
-      let first = same_home m ok x w1.seen k.seen (given_chain m ok p x k w k1 w1 there) in
+      let more : at_home m x w2.seen ≡ at_home m x w1.seen + 1 = subst P q (home_more drew ok) in
+      let last = same_home ok x k2.seen w2.seen (given_chain ok back) in
+      let first = same_home ok x w1.seen k.seen (given_chain ok there) in
       omega arith
 
   pub handed_kept : In x k2.keeps
-  handed_kept = given_name m ok p x w2 k1 w3 k2 back
+  handed_kept = given_name ok back
 
   -- the other names of the first pass, and their chains, stay
   pub handed_others : (y : N) → In y k.keeps → (y ≡ x → ⊥) → In y k2.keeps × (chain m y k2.seen ≡ chain m y k.seen)
   handed_others y h ne =
-      let kept = other_kept m ok p x k w k1 w1 there y h ne in
-      (given_kept m ok p x w2 k1 w3 k2 back y kept, given_other m ok p x w2 k1 w3 k2 back y kept ∙ ap (λ (xs : List (ℕ × E)). chain m y xs) (given_left_seen m ok p x k w k1 w1 there))
+      let kept = other_kept ok there y h ne in
+      (given_kept ok back y kept, given_other ok back y kept ∙ ap (λ (xs : List (ℕ × E)). chain m y xs) (given_left_seen ok there))
 
   -- the names of the pass that drew are still its own, and have the entry at the end of their chains where it is about them
   pub handed_mine : (y : N) → In y w.keeps → (y ≡ x → ⊥) → m.ends e y ≡ false → In y w3.keeps
-  handed_mine y h ne f = other_kept m ok p x w2 k1 w3 k2 back y (still_kept m p e w1 n w2 drew y (given_kept m ok p x k w k1 w1 there y h) f) ne
+  handed_mine y h ne f = other_kept ok back y (still_kept drew y (given_kept ok there y h) f) ne
 
   pub handed_own : (y : N) → In y w.keeps → m.about e y ≡ true → chain m y w3.seen ≡ chain m y w.seen ++ (n, e) ∷ []
-  handed_own y h about = ap (λ (xs : List (ℕ × E)). chain m y xs) (given_left_seen m ok p x w2 k1 w3 k2 back) ∙ drawn_chain m p e w1 n w2 drew y about ∙ ap (λ (c : List (ℕ × E)). c ++ (n, e) ∷ []) (given_other m ok p x k w k1 w1 there y h)
+  handed_own y h about = ap (λ (xs : List (ℕ × E)). chain m y xs) (given_left_seen ok back) ∙ drawn_chain drew y about ∙ ap (λ (c : List (ℕ × E)). c ++ (n, e) ∷ []) (given_other ok there y h)
 
   pub handed_still : (y : N) → In y w.keeps → m.about e y ≡ false → chain m y w3.seen ≡ chain m y w.seen
-  handed_still y h about = ap (λ (xs : List (ℕ × E)). chain m y xs) (given_left_seen m ok p x w2 k1 w3 k2 back) ∙ drawn_other m p e w1 n w2 drew y about ∙ given_other m ok p x k w k1 w1 there y h
+  handed_still y h about = ap (λ (xs : List (ℕ × E)). chain m y xs) (given_left_seen ok back) ∙ drawn_other drew y about ∙ given_other ok there y h
 
   pub handed_part : IsPart m w.seen w3.seen
   handed_part =
       let P : List (ℕ × E) → Type 0 = λ xs. IsPart m w.seen xs in
-      subst P (sym (given_left_seen m ok p x w2 k1 w3 k2 back)) (part_then m w.seen w1.seen w2.seen (given_part m ok p x k w k1 w1 there) (drawn_part m p e w1 n w2 drew))
+      subst P (sym (given_left_seen ok back)) (part_then m w.seen w1.seen w2.seen (given_part ok there) (drawn_part drew))
