@@ -14,6 +14,10 @@ module _ {A : Type 0} where
   fewer false true x xs ys h f = omega arith
   fewer false false x xs ys h f = h
 
+  pub length-filter_le : (p : A → Bool) (xs : List A) → length (filter p xs) ≤ length xs
+  length-filter_le p [] = omega arith
+  length-filter_le p (x ∷ xs) = fewer (p x) true x xs (filter p xs) (length-filter_le p xs) (λ e. refl)
+
   dropped : (p q : A → Bool) (x : A) (xs : List A) (b : Bool) → length (filter p (filter q xs)) ≤ length (filter p xs) → length (filter p (cond b (x ∷ filter q xs) (filter q xs))) ≤ length (cond (p x) (x ∷ filter p xs) (filter p xs))
   dropped p q x xs true h = fewer (p x) (p x) x (filter p xs) (filter p (filter q xs)) h (λ e. e)
   dropped p q x xs false h = fewer false (p x) x (filter p xs) (filter p (filter q xs)) h (λ e. absurd (true≢false (sym e)))

@@ -1,5 +1,5 @@
 -- What users of a spine rest on: chains and counts after a draw, and where a name goes there and back.
-use Rattle.std.proofs.Common.{◌≡◌, ℕ, zero, suc, ◌+◌, ◌<◌, ◌⊎◌, Bool, true, false, not, cond, List, [], ◌∷◌, ◌++◌, length, filter, Some, refl, sym, ap, ◌∙◌, subst, inl, inr, ⊎_elim, arith}
+use Rattle.std.proofs.Common.{◌≡◌, ℕ, zero, suc, ◌+◌, ◌<◌, ◌≤◌, ◌⊎◌, Bool, true, false, not, cond, List, [], ◌∷◌, ◌++◌, length, filter, Some, refl, sym, ap, ◌∙◌, subst, inl, inr, ⊎_elim, arith}
 use Rattle.std.proofs.lemmas.Bool.{true≢false, not_from_false, false_from_ne_true}
 use Rattle.std.proofs.lemmas.List.Elements.{filter-append}
 use Rattle.dm_spine.specs.Past.{Meaning, Lawful, In, Rises, has, chain, at_home, union, IsPart, Fits, Legal, Agree}
@@ -8,7 +8,7 @@ use Rattle.dm_spine.specs.declared.rule.View.{View}
 use Rattle.dm_spine.proofs.Lists.{in_left, in_right, in_append, in_filter, filter_in, rises_filter, rises_front, filter-last_in, filter-last_out, below_front, begins}
 use Rattle.dm_spine.proofs.Portions.{at_home_about, parts_one}
 use Rattle.dm_spine.proofs.Legality.{At}
-use Rattle.dm_spine.proofs.Counts.{at_home-more, at_home-other}
+use Rattle.dm_spine.proofs.Counts.{length-filter_le, at_home-more, at_home-other}
 use Rattle.dm_spine.proofs.Seats.{in_one, has_in, in_without, without_in}
 
 module _ {S N E : Type 0} (m : Meaning S N E) where
@@ -130,6 +130,10 @@ module _ {S N E : Type 0} {m : Meaning S N E} (ok : Lawful m) where
 
   pub same_home : (h : N) (xs ys : List (ℕ × E)) → chain m h xs ≡ chain m h ys → at_home m h xs ≡ at_home m h ys
   same_home h xs ys e = at_home-chain h xs ∙ ap (λ (c : List (ℕ × E)). at_home m h c) e ∙ sym (at_home-chain h ys)
+
+  -- no more entries are at home there than are about it
+  pub at_home_most : (h : N) (xs : List (ℕ × E)) → at_home m h xs ≤ length (chain m h xs)
+  at_home_most h xs = let e = at_home-chain h xs in let l = length-filter_le (λ a. m.same (m.home a.1) h) (chain m h xs) in omega arith
 
   pub has_not : (x : N) (xs : List N) → (In x xs → ⊥) → has m x xs ≡ false
   has_not x xs f = false_from_ne_true (has m x xs) (λ e. f (has_in ok x xs e))

@@ -35,12 +35,12 @@ pub struct Past<P: Parts> {
 
 impl<P: Parts> Spine<P> {
     ghost use Rattle.std.specs.Prelude.{◌≡◌, [], IfOk};
-    ghost use Rattle.dm_spine.specs.Passes.{IsOn, parts_of, seen_by, kept_by};
+    ghost use Rattle.dm_spine.specs.Passes.{IsOn, spine_parts, parts_of, seen_by, kept_by};
 
     /// A history with no entry, and the pass that keeps every fixed name. With `NoMemory` nothing was begun.
     pub fn begin(alloc: Global, parts: P) -> Result<(Spine<P>, Pass<P>), NoMemory>
         ensures spine { IfOk result (λ r. IsOn r.0 r.1) }
-        ensures parts { IfOk result (λ r. parts_of r.1 ≡ parts) }
+        ensures parts { IfOk result (λ r. (spine_parts r.0 ≡ parts) × (parts_of r.1 ≡ parts)) }
         ensures seen { IfOk result (λ r. seen_by r.1 ≡ []) }
         ensures keeps { IfOk result (λ r. kept_by r.1 ≡ P.meaning.fixed parts) }
     {
