@@ -3,12 +3,12 @@ use Rattle.std.proofs.Common.{◌≡◌, ◌≢◌, ℕ, ◌+◌, ◌%◌, ◌^�
 use Rattle.std.proofs.lemmas.Bool.{true≢false, not-true, cases_Bool}
 use mathlib.Core.Option.{some}
 use lib.ListN.{get_elem?}
-use Rattle.atomic_table.specs.Table.{Me, Act, Valid, Allows, homes_after, carried_after}
+use Rattle.atomic_table.specs.Table.{Act, Valid, Allows, homes_after, carried_after}
 use Rattle.atomic_table.specs.Table.Act.{keeps}
 use Rattle.atomic_table.proofs.Lists.{at_set}
 use Rattle.dm_spine.specs.Past.{Meaning, Lawful, In, below, IsAbove, at_home, Made, Fits, Legal}
-use Rattle.dm_spine.specs.Rule.{sight, drawn, IsView, IsLog, KeptBy, Kept, MayDraw, Draws}
-use Rattle.dm_spine.specs.Steps.{draws_as}
+use Rattle.dm_spine.specs.Rule.{sight, drawn, IsView, IsLog, KeptWith, Kept, MayDraw, Draws}
+use Rattle.dm_spine.specs.Steps.{Seen, draws_as}
 use Rattle.dm_spine.specs.declared.rule.View.{View}
 use Rattle.dm_spine.proofs.Lists.{in_left, in_right, in_append, in_filter, rises_last, same_members, below_all, below-last}
 use Rattle.dm_spine.proofs.Portions.{same_count}
@@ -144,8 +144,8 @@ module _ {S N E : Type 0} (m : Meaning S N E) (ok : Lawful m) (p : S) where
         before x a b l about about' (inr t) (inl w) = let P : ℕ × E → Type 0 = λ c. m.about c.1 x ≡ true in h.whole x (may.keeps x (subst P (in_one a (n, e) t) about)) b w about'
         before x a b l about about' (inr t) (inr w) = let d : b.0 ≡ n = ap (λ (c : ℕ × E). c.0) (in_one b (n, e) w) in let k : a.0 ≡ n = ap (λ (c : ℕ × E). c.0) (in_one a (n, e) t) in absurd (omega arith)
 
-  kept_drawn : (log : List (ℕ × E)) (seats : List (List (View E N))) (id : ℕ) (v : View E N) (e : E) → KeptBy m p log (length log ∷ []) seats → get_elem? seats id ≡ some (v ∷ []) → MayDraw m p e v
-      → KeptBy m p (log ++ (length log, e) ∷ []) (length (log ++ (length log, e) ∷ []) ∷ []) (set seats id (drawn m (length log) e v ∷ []))
+  kept_drawn : (log : List (ℕ × E)) (seats : List (List (View E N))) (id : ℕ) (v : View E N) (e : E) → KeptWith m p log (length log ∷ []) seats → get_elem? seats id ≡ some (v ∷ []) → MayDraw m p e v
+      → KeptWith m p (log ++ (length log, e) ∷ []) (length (log ++ (length log, e) ∷ []) ∷ []) (set seats id (drawn m (length log) e v ∷ []))
   kept_drawn log seats id v e k at may =
       let n = length log in
       let z : ℕ × E = (n, e) in
@@ -201,7 +201,7 @@ module _ {S N E : Type 0} (m : Meaning S N E) (ok : Lawful m) (p : S) where
       }
 
   -- whatever the table is when the word is counted up, the seat can go on
-  pub draw_allows : (e : E) (slots id : ℕ) (me : Me (Unit {0}) (List (View E N))) (v : View E N) → me.0 ≡ v ∷ [] → me.1 ≡ [] → MayDraw m p e v
+  pub draw_allows : (e : E) (slots id : ℕ) (me : Seen N E) (v : View E N) → me.0 ≡ v ∷ [] → me.1 ≡ [] → MayDraw m p e v
       → Allows (Kept m p) slots id me 0 (λ n. (n + 1) % 2 ^ 64) (draws_as m (Some (p, e)) me)
   draw_allows e slots id me v one bare may s kept homes at low =
       let log = kept.0 in
@@ -211,19 +211,19 @@ module _ {S N E : Type 0} (m : Meaning S N E) (ok : Lawful m) (p : S) where
       let d = drawn m n e v in
       let at' : get_elem? s.views id ≡ some (v ∷ []) = at ∙ ap (λ (t : List (View E N)). some t) one in
       let After : List ℕ → Type 0 = λ ws. (w : List (View E N)) × (a : Act (Unit {0})) × Valid s.homes me.1 a × Kept m p record { words = slice_set ws 0 ((slice_index ws 0 + 1) % 2 ^ 64); homes = homes_after s.homes me.1 a; views = slice_set s.views id w } × draws_as m (Some (p, e)) me (slice_index ws 0) (w, carried_after me.1 a) in
-      let K : List ℕ → Type 0 = λ ws. KeptBy m p log ws s.views in
-      let k' : KeptBy m p log (n ∷ []) s.views = subst K k.word k in
+      let K : List ℕ → Type 0 = λ ws. KeptWith m p log ws s.views in
+      let k' : KeptWith m p log (n ∷ []) s.views = subst K k.word k in
       let h : IsView m p log v = k.known id (v ∷ []) v at' (inl refl) in
       let more : length (log ++ z ∷ []) ≡ n + 1 = length-append log (z ∷ []) in
       let l = short m ok p (log ++ z ∷ []) (log_more log v e k.history h may) in
       let lt : n + 1 < 2 ^ 64 = omega arith in
       let word : length (log ++ z ∷ []) ≡ (n + 1) % 2 ^ 64 = more ∙ sym (mod-eq_of_lt lt) in
-      let W : ℕ → Type 0 = λ c. KeptBy m p (log ++ z ∷ []) (c ∷ []) (set s.views id (d ∷ [])) in
+      let W : ℕ → Type 0 = λ c. KeptWith m p (log ++ z ∷ []) (c ∷ []) (set s.views id (d ∷ [])) in
       let D : List (View E N) → Type 0 = λ vs. Draws m p e (sight vs) n d in
       subst After (sym k.word) (d ∷ [], keeps, tt, (log ++ z ∷ [], subst W word (kept_drawn log s.views id v e k' at' may)), (refl, bare, subst D (sym one) (draws log v e k.history h may)))
 
   -- the same, where what is said is the entry and what the spine was begun with
-  pub draw_said : (said : Option (S × E)) (slots id : ℕ) (me : Me (Unit {0}) (List (View E N))) → length me.0 ≡ 1 → me.1 ≡ [] → IsSomeAnd said (λ a. (a.0 ≡ p) × MayDraw m a.0 a.1 (sight me.0))
+  pub draw_said : (said : Option (S × E)) (slots id : ℕ) (me : Seen N E) → length me.0 ≡ 1 → me.1 ≡ [] → IsSomeAnd said (λ a. (a.0 ≡ p) × MayDraw m a.0 a.1 (sight me.0))
       → Allows (Kept m p) slots id me 0 (λ n. (n + 1) % 2 ^ 64) (draws_as m said me)
   draw_said None slots id me one bare may = absurd may
   draw_said (Some a) slots id me one bare may =

@@ -2,12 +2,12 @@
 use Rattle.std.proofs.Common.{◌≡◌, ◌≢◌, ℕ, zero, suc, ◌⊎◌, Option, Some, None, IsSomeAnd, List, [], ◌∷◌, ◌++◌, length, set, slice_index, slice_set, refl, sym, ap, ◌∙◌, subst, inl, inr, ⊎_elim, arith}
 use mathlib.Core.Option.{some, some-injective, some-ne-none}
 use lib.ListN.{get_elem?}
-use Rattle.atomic_table.specs.Table.{Me, Act, Valid, Allows, Splits, Joins, opening, homes_after, carried_after}
+use Rattle.atomic_table.specs.Table.{Act, Valid, Allows, Splits, Joins, opening, homes_after, carried_after}
 use Rattle.atomic_table.specs.Table.Act.{keeps}
 use Rattle.atomic_table.proofs.Lists.{at_set, set_else, set_again}
 use Rattle.dm_spine.specs.Past.{Meaning, Lawful, In, union, Made, Legal}
-use Rattle.dm_spine.specs.Rule.{view, sight, joined, without, IsView, IsLog, IsSound, KeptBy, Kept, Together}
-use Rattle.dm_spine.specs.Steps.{cut_left, cut_right, settles_as, looks_as}
+use Rattle.dm_spine.specs.Rule.{view, sight, joined, without, IsView, IsLog, IsSound, KeptWith, Kept, Together}
+use Rattle.dm_spine.specs.Steps.{Seen, cut_left, cut_right, settles_as, looks_as}
 use Rattle.dm_spine.specs.declared.rule.View.{View}
 use Rattle.dm_spine.proofs.Lists.{in_append, union_left, union_right}
 use Rattle.dm_spine.proofs.Portions.{parts_one, union_part, part_within, same_chain}
@@ -51,8 +51,8 @@ module _ {S N E : Type 0} (m : Meaning S N E) (ok : Lawful m) (p : S) where
     }
 
   -- a seat's views change, and no view keeps more than some view of that seat did
-  kept_set : (log : List (ℕ × E)) (words : List ℕ) (seats : List (List (View E N))) (id : ℕ) (old new : List (View E N)) → length new ≡ 1 → KeptBy m p log words seats → get_elem? seats id ≡ some old
-      → ((u : View E N) → In u new → IsView m p log u) → ((u : View E N) (x : N) → In u new → In x u.keeps → (o : View E N) × In o old × In x o.keeps) → KeptBy m p log words (set seats id new)
+  kept_set : (log : List (ℕ × E)) (words : List ℕ) (seats : List (List (View E N))) (id : ℕ) (old new : List (View E N)) → length new ≡ 1 → KeptWith m p log words seats → get_elem? seats id ≡ some old
+      → ((u : View E N) → In u new → IsView m p log u) → ((u : View E N) (x : N) → In u new → In x u.keeps → (o : View E N) × In o old × In x o.keeps) → KeptWith m p log words (set seats id new)
   kept_set log words seats id old new single k at fine from =
       let inside : (vs : List (View E N)) (u : View E N) → new ≡ vs → In u vs → In u new = λ vs u q t. let P : List (View E N) → Type 0 = λ ws. In u ws in subst P (sym q) t in
       record {
@@ -76,15 +76,15 @@ module _ {S N E : Type 0} (m : Meaning S N E) (ok : Lawful m) (p : S) where
       }
 
   -- names go over to a new seat
-  kept_cut : (log : List (ℕ × E)) (words : List ℕ) (seats : List (List (View E N))) (id : ℕ) (v : View E N) (names : List N) → KeptBy m p log words seats → get_elem? seats id ≡ some (v ∷ [])
-      → ((x : N) → In x names → In x v.keeps) → KeptBy m p log words (set seats id (view v.seen (without m names v.keeps) ∷ []) ++ (view v.seen names ∷ []) ∷ [])
+  kept_cut : (log : List (ℕ × E)) (words : List ℕ) (seats : List (List (View E N))) (id : ℕ) (v : View E N) (names : List N) → KeptWith m p log words seats → get_elem? seats id ≡ some (v ∷ [])
+      → ((x : N) → In x names → In x v.keeps) → KeptWith m p log words (set seats id (view v.seen (without m names v.keeps) ∷ []) ++ (view v.seen names ∷ []) ∷ [])
   kept_cut log words seats id v names k at own =
       let h = k.known id (v ∷ []) v at (inl refl) in
       let left = view v.seen (without m names v.keeps) in
       let right = view v.seen names in
       let fewer : (x : N) → In x left.keeps → In x v.keeps × (In x names → ⊥) = λ x t. in_without ok x names v.keeps t in
       let seats' = set seats id (left ∷ []) in
-      let k' : KeptBy m p log words seats' = kept_set log words seats id (v ∷ []) (left ∷ []) refl k at
+      let k' : KeptWith m p log words seats' = kept_set log words seats id (v ∷ []) (left ∷ []) refl k at
       (λ u t. let Q : View E N → Type 0 = λ y. IsView m p log y in subst Q (sym (in_one u left t)) (view_fewer ok p log v left.keeps (λ x o. (fewer x o).0) h))
       (λ u x t o. let P : View E N → Type 0 = λ y. In x y.keeps in (v, inl refl, (fewer x (subst P (in_one u left t) o)).0)) in
       let is_right : (vs : List (View E N)) (u : View E N) → right ∷ [] ≡ vs → In u vs → u ≡ right = λ vs u q t. let P : List (View E N) → Type 0 = λ ws. In u ws in in_one u right (subst P (sym q) t) in
@@ -236,18 +236,18 @@ module _ {S N E : Type 0} (m : Meaning S N E) (ok : Lawful m) (p : S) where
         sound = sound_view m p log (joined v w) all;
       }
 
-  settle_some : (slots id : ℕ) (me : Me (Unit {0}) (List (View E N))) (v w : View E N) → me.0 ≡ v ∷ (w ∷ []) → me.1 ≡ [] → Allows (Kept m p) slots id me 0 (λ n. n) (λ _. settles_as m (Some p) me)
+  settle_some : (slots id : ℕ) (me : Seen N E) (v w : View E N) → me.0 ≡ v ∷ (w ∷ []) → me.1 ≡ [] → Allows (Kept m p) slots id me 0 (λ n. n) (λ _. settles_as m (Some p) me)
   settle_some slots id me v w two bare s kept homes at low =
       let log = kept.0 in
       let k = kept.1 in
       let at' : get_elem? s.views id ≡ some (v ∷ (w ∷ [])) = at ∙ ap (λ (t : List (View E N)). some t) two in
       let h = k.known id (v ∷ (w ∷ [])) v at' (inl refl) in
       let h' = k.known id (v ∷ (w ∷ [])) w at' (inr (inl refl)) in
-      let K : List ℕ → Type 0 = λ ws. KeptBy m p log ws s.views in
-      let k' : KeptBy m p log (length log ∷ []) s.views = subst K k.word k in
+      let K : List ℕ → Type 0 = λ ws. KeptWith m p log ws s.views in
+      let k' : KeptWith m p log (length log ∷ []) s.views = subst K k.word k in
       let After : List ℕ → Type 0 = λ ws. (z : List (View E N)) × (a : Act (Unit {0})) × Valid s.homes me.1 a × Kept m p record { words = slice_set ws 0 (slice_index ws 0); homes = homes_after s.homes me.1 a; views = slice_set s.views id z } × settles_as m (Some p) me (z, carried_after me.1 a) in
       let j = joined v w in
-      let set_kept : KeptBy m p log (length log ∷ []) (set s.views id (j ∷ [])) = kept_set log (length log ∷ []) s.views id (v ∷ (w ∷ [])) (j ∷ []) refl k' at'
+      let set_kept : KeptWith m p log (length log ∷ []) (set s.views id (j ∷ [])) = kept_set log (length log ∷ []) s.views id (v ∷ (w ∷ [])) (j ∷ []) refl k' at'
       (λ u t. let Q : View E N → Type 0 = λ y. IsView m p log y in subst Q (sym (in_one u j t)) (view_joined log v w k.history h h'))
       (λ u x t o. let P : View E N → Type 0 = λ y. In x y.keeps in ⊎_elim (λ f. (v, inl refl, f)) (λ f. (w, inr (inl refl), f)) (in_append x v.keeps w.keeps (subst P (in_one u j t) o))) in
       let tells : (v' u : View E N) → me.0 ≡ v' ∷ (u ∷ []) → (j ∷ [] ≡ joined v' u ∷ []) × (me.1 ≡ []) × Together m p v' u
@@ -260,38 +260,41 @@ module _ {S N E : Type 0} (m : Meaning S N E) (ok : Lawful m) (p : S) where
       subst P a (subst Q b (refl, bare, together log v w k.history h h' (λ x t u. k.pair id v w x at' t u))) in
       subst After (sym k.word) (j ∷ [], keeps, tt, (log, set_kept), tells)
 
-  pub settle_said : (said : Option S) (slots id : ℕ) (me : Me (Unit {0}) (List (View E N))) (v w : List (View E N)) → me.0 ≡ v ++ w → length v ≡ 1 → length w ≡ 1 → me.1 ≡ [] → IsSomeAnd said (λ q. q ≡ p) → Allows (Kept m p) slots id me 0 (λ n. n) (λ _. settles_as m said me)
-  settle_said None slots id me v w both one other bare is = absurd is
-  settle_said (Some q) slots id me v w both one other bare is =
-      let Q : S → Type 0 = λ r. Allows (Kept m p) slots id me 0 (λ n. n) (λ _. settles_as m (Some r) me) in
+  -- the two views of a seat that has just taken in another
+  both_views : (me : Seen N E) (v w : List (View E N)) (slots : List (ℕ × Unit {0})) → me ≡ (v ++ w, slots) → length v ≡ 1 → length w ≡ 1 → me.0 ≡ sight v ∷ (sight w ∷ [])
+  both_views me v w slots both one other =
       let P : List (View E N) → Type 0 = λ t. me.0 ≡ t ++ w in
       let R : List (View E N) → Type 0 = λ t. me.0 ≡ (sight v ∷ []) ++ t in
-      subst Q (sym is) (settle_some slots id me (sight v) (sight w) (subst R (single_view w other) (subst P (single_view v one) both)) bare)
+      subst R (single_view w other) (subst P (single_view v one) (ap (λ (t : Seen N E). t.0) both))
+
+  pub settle_said : (said : Option S) (slots id : ℕ) (me : Seen N E) (v w : List (View E N)) (old : List (ℕ × Unit {0})) → me ≡ (v ++ w, old) → length v ≡ 1 → length w ≡ 1 → old ≡ [] → IsSomeAnd said (λ q. q ≡ p) → Allows (Kept m p) slots id me 0 (λ n. n) (λ _. settles_as m said me)
+  settle_said None slots id me v w old both one other bare is = absurd is
+  settle_said (Some q) slots id me v w old both one other bare is =
+      let Q : S → Type 0 = λ r. Allows (Kept m p) slots id me 0 (λ n. n) (λ _. settles_as m (Some r) me) in
+      subst Q (sym is) (settle_some slots id me (sight v) (sight w) (both_views me v w old both one other) (ap (λ (t : Seen N E). t.1) both ∙ bare))
 
   -- after a join the seat has one view again
-  pub settled : (said : Option S) (me new : Me (Unit {0}) (List (View E N))) (v w : List (View E N)) → me.0 ≡ v ++ w → length v ≡ 1 → length w ≡ 1 → IsSomeAnd said (λ q. q ≡ p) → settles_as m said me new → (new.1 ≡ []) × (length new.0 ≡ 1)
-  settled None me new v w both one other is told = absurd is
-  settled (Some q) me new v w both one other is told =
-      let P : List (View E N) → Type 0 = λ t. me.0 ≡ t ++ w in
-      let R : List (View E N) → Type 0 = λ t. me.0 ≡ (sight v ∷ []) ++ t in
-      let t = told (sight v) (sight w) (subst R (single_view w other) (subst P (single_view v one) both)) in
+  pub settled : (said : Option S) (me new : Seen N E) (v w : List (View E N)) (old : List (ℕ × Unit {0})) → me ≡ (v ++ w, old) → length v ≡ 1 → length w ≡ 1 → IsSomeAnd said (λ q. q ≡ p) → settles_as m said me new → (new.1 ≡ []) × (length new.0 ≡ 1)
+  settled None me new v w old both one other is told = absurd is
+  settled (Some q) me new v w old both one other is told =
+      let t = told (sight v) (sight w) (both_views me v w old both one other) in
       (t.1, ap length t.0)
 
-  look_some : (slots id : ℕ) (me : Me (Unit {0}) (List (View E N))) (v : View E N) → me.0 ≡ v ∷ [] → Allows (Kept m p) slots id me 0 (λ n. n) (λ _. looks_as m (Some p) me)
+  look_some : (slots id : ℕ) (me : Seen N E) (v : View E N) → me.0 ≡ v ∷ [] → Allows (Kept m p) slots id me 0 (λ n. n) (λ _. looks_as m (Some p) me)
   look_some slots id me v one s kept homes at low =
       let log = kept.0 in
       let k = kept.1 in
       let at' : get_elem? s.views id ≡ some (v ∷ []) = at ∙ ap (λ (t : List (View E N)). some t) one in
       let h = k.known id (v ∷ []) v at' (inl refl) in
-      let K : List ℕ → Type 0 = λ ws. KeptBy m p log ws s.views in
-      let k' : KeptBy m p log (length log ∷ []) s.views = subst K k.word k in
+      let K : List ℕ → Type 0 = λ ws. KeptWith m p log ws s.views in
+      let k' : KeptWith m p log (length log ∷ []) s.views = subst K k.word k in
       let After : List ℕ → Type 0 = λ ws. (z : List (View E N)) × (a : Act (Unit {0})) × Valid s.homes me.1 a × Kept m p record { words = slice_set ws 0 (slice_index ws 0); homes = homes_after s.homes me.1 a; views = slice_set s.views id z } × looks_as m (Some p) me (z, carried_after me.1 a) in
-      let C : List (List (View E N)) → Type 0 = λ vs. KeptBy m p log (length log ∷ []) vs in
+      let C : List (List (View E N)) → Type 0 = λ vs. KeptWith m p log (length log ∷ []) vs in
       let L : List (View E N) → Type 0 = λ vs. Legal m p (sight vs).seen in
       let G : List (View E N) → Type 0 = λ vs. IsSound m p (sight vs) in
       subst After (sym k.word) (me.0, keeps, tt, (log, subst C (sym (set_again s.views id me.0 at)) k'), (refl, subst L (sym one) h.legal, subst G (sym one) (sound_view m p log v h)))
 
-  pub look_said : (said : Option S) (slots id : ℕ) (me : Me (Unit {0}) (List (View E N))) → length me.0 ≡ 1 → IsSomeAnd said (λ q. q ≡ p) → Allows (Kept m p) slots id me 0 (λ n. n) (λ _. looks_as m said me)
+  pub look_said : (said : Option S) (slots id : ℕ) (me : Seen N E) → length me.0 ≡ 1 → IsSomeAnd said (λ q. q ≡ p) → Allows (Kept m p) slots id me 0 (λ n. n) (λ _. looks_as m said me)
   look_said None slots id me one is = absurd is
   look_said (Some q) slots id me one is =
       let Q : S → Type 0 = λ r. Allows (Kept m p) slots id me 0 (λ n. n) (λ _. looks_as m (Some r) me) in

@@ -4,12 +4,23 @@ use Rattle.std.proofs.lemmas.Bool.{true≢false, not_from_false, false_from_ne_t
 use Rattle.std.proofs.lemmas.List.Elements.{filter-append}
 use Rattle.dm_spine.specs.Past.{Meaning, Lawful, In, Rises, has, chain, at_home, union, IsPart, Fits, Legal, Agree}
 use Rattle.dm_spine.specs.Rule.{IsSound, Draws, Together, Gives}
+use Rattle.dm_spine.specs.Passes.{parts_of, spine_parts, IsBeside, IsOn}
 use Rattle.dm_spine.specs.declared.rule.View.{View}
+use Rattle.dm_spine.specs.declared.pass.Pass.{Pass}
+use Rattle.dm_spine.specs.declared.pass.Spine.{Spine}
 use Rattle.dm_spine.proofs.Lists.{in_left, in_right, in_append, in_filter, filter_in, rises_filter, rises_front, filter-last_in, filter-last_out, below_front, begins}
 use Rattle.dm_spine.proofs.Portions.{at_home_about, parts_one}
 use Rattle.dm_spine.proofs.Legality.{At}
 use Rattle.dm_spine.proofs.Counts.{length-filter_le, at_home-more, at_home-other}
 use Rattle.dm_spine.proofs.Seats.{in_one, has_in, in_without, without_in}
+
+module _ {S N E : Type 0} where
+  -- passes of one spine have one opening value
+  pub beside_parts : (one other : Pass S N E) → IsBeside one other → parts_of one ≡ parts_of other
+  beside_parts one other h = λ i. (h i).shared.key
+
+  pub on_parts : (spine : Spine S N E) (pass : Pass S N E) → IsOn spine pass → spine_parts spine ≡ parts_of pass
+  on_parts spine pass h = λ i. (h i).shared.key
 
 module _ {S N E : Type 0} (m : Meaning S N E) where
   pub chain-append : (x : N) (xs ys : List (ℕ × E)) → chain m x (xs ++ ys) ≡ chain m x xs ++ chain m x ys

@@ -71,7 +71,8 @@ module _ {S N E : Type 0} (m : Meaning S N E) where
   pub record IsPart (xs log : List (ℕ × E)) : Type 0 where
     pub rises : Rises 0 xs
     pub within : (a : ℕ × E) → In a xs → In a log
-    pub chained : (x : N) (a b : ℕ × E) → In a xs → In b log → b.0 < a.0 → m.about a.1 x ≡ true → m.about b.1 x ≡ true → In b xs
+    pub chained : (x : N) (a b : ℕ × E) → In a xs → In b log → b.0 < a.0
+        → m.about a.1 x ≡ true → m.about b.1 x ≡ true → In b xs
 
   -- the entry may come after the entries xs
   pub record Fits (p : S) (xs : List (ℕ × E)) (e : E) : Type 0 where
@@ -85,7 +86,8 @@ module _ {S N E : Type 0} (m : Meaning S N E) where
   -- one entry at each number, and one entry at each place of each name's chain
   pub record Agree (xs ys : List (ℕ × E)) : Type 0 where
     pub numbers : (a b : ℕ × E) → In a xs → In b ys → a.0 ≡ b.0 → a ≡ b
-    pub places : (x : N) (i : ℕ) (a b : ℕ × E) → slice_get (chain x xs) i ≡ Some a → slice_get (chain x ys) i ≡ Some b → a ≡ b
+    pub places : (x : N) (i : ℕ) (a b : ℕ × E)
+        → slice_get (chain x xs) i ≡ Some a → slice_get (chain x ys) i ≡ Some b → a ≡ b
 
 -- What every meaning owes.
 pub record Lawful {S N E : Type 0} (m : Meaning S N E) : Type 0 where
@@ -100,4 +102,5 @@ pub record Lawful {S N E : Type 0} (m : Meaning S N E) : Type 0 where
   pub homes_stay : (n : ℕ) (e f : E) → In (m.home f) (m.makes n e) → ⊥
   pub fixed_few : (p : S) → length (m.fixed p) ≤ 32768
   -- what an entry needs stays true in a larger past, where the chains of its own names are the same
-  pub needs_grow : (p : S) (xs ys : List (ℕ × E)) (e : E) → IsPart m xs ys → ((x : N) → m.about e x ≡ true → chain m x xs ≡ chain m x ys) → m.needs p xs e → m.needs p ys e
+  pub needs_grow : (p : S) (xs ys : List (ℕ × E)) (e : E) → IsPart m xs ys
+      → ((x : N) → m.about e x ≡ true → chain m x xs ≡ chain m x ys) → m.needs p xs e → m.needs p ys e

@@ -21,6 +21,7 @@ module _ {E N : Type 0} where
   joined v w = view (union v.seen w.seen) (v.keeps ++ w.keeps)
 
 module _ {S N E : Type 0} (m : Meaning S N E) where
+  -- the names xs but for these
   abbrev pub without : List N → List N → List N
   without names xs = filter (λ x. not (has m x names)) xs
 
@@ -38,7 +39,7 @@ module _ {S N E : Type 0} (m : Meaning S N E) where
     -- each is fixed, or an entry that it has seen made it
     pub rooted : (x : N) → In x v.keeps → In x (m.fixed p) ⊎ Made m x v.seen
 
-  -- the whole history
+  -- What holds of the whole history. No list of it is stored
   pub record IsLog (p : S) (log : List (ℕ × E)) : Type 0 where
     pub rises : Rises 0 log
     pub low : IsAbove (length log) log
@@ -46,18 +47,20 @@ module _ {S N E : Type 0} (m : Meaning S N E) where
     pub few : (h : N) → at_home m h log ≤ 281474976710656
     pub grown : (a : ℕ × E) (x : N) → In a log → m.about a.1 x ≡ true → In x (m.fixed p) ⊎ Made m x log
 
-  -- The word counts the history. A seat has one view, two while a join is under way, and none when it is spent
-  pub record KeptBy (p : S) (log : List (ℕ × E)) (words : List ℕ) (seats : List (List (View E N))) : Type 0 where
+  -- The word counts the history log. A seat has one view, two while a join is under way, and none when it is spent
+  pub record KeptWith (p : S) (log : List (ℕ × E)) (words : List ℕ) (seats : List (List (View E N))) : Type 0 where
     pub word : words ≡ length log ∷ []
     pub history : IsLog p log
     pub known : (i : ℕ) (vs : List (View E N)) (v : View E N) → get_elem? seats i ≡ some vs → In v vs → IsView p log v
     -- a name has one seat at most that keeps it
-    pub one : (i j : ℕ) (vs ws : List (View E N)) (v w : View E N) (x : N) → get_elem? seats i ≡ some vs → get_elem? seats j ≡ some ws → In v vs → In w ws → In x v.keeps → In x w.keeps → i ≡ j
+    pub one : (i j : ℕ) (vs ws : List (View E N)) (v w : View E N) (x : N)
+        → get_elem? seats i ≡ some vs → get_elem? seats j ≡ some ws → In v vs → In w ws → In x v.keeps → In x w.keeps → i ≡ j
     -- also while a join is under way
     pub pair : (i : ℕ) (v w : View E N) (x : N) → get_elem? seats i ≡ some (v ∷ (w ∷ [])) → In x v.keeps → In x w.keeps → ⊥
 
+  -- the rule: there is a whole history that the word counts, and of which each pass knows a part
   abbrev pub Kept : S → State (Unit {0}) (List (View E N)) → Type 0
-  Kept p s = (log : List (ℕ × E)) × KeptBy p log s.words s.views
+  Kept p s = (log : List (ℕ × E)) × KeptWith p log s.words s.views
 
   -- what every pass knows of its own past and names
   pub record IsSound (p : S) (v : View E N) : Type 0 where
@@ -68,6 +71,7 @@ module _ {S N E : Type 0} (m : Meaning S N E) where
   -- the pass may draw the entry
   pub record MayDraw (p : S) (e : E) (v : View E N) : Type 0 where
     pub keeps : (x : N) → m.about e x ≡ true → In x v.keeps
+    -- whichever number it will get
     pub fresh : (n : ℕ) (x : N) → IsAbove n v.seen → In x (m.makes n e) → Made m x v.seen → ⊥
     pub fits : Fits m p v.seen e
     pub room : at_home m (m.home e) v.seen < 281474976710656
@@ -82,7 +86,8 @@ module _ {S N E : Type 0} (m : Meaning S N E) where
     pub legal : Legal m p w.seen
     pub sound : IsSound p w
 
-  -- what two passes of one spine had seen fits together, and each knew the whole chain of each name that it kept
+  -- What two passes of one spine had seen fits together: each past is a part of both, and each pass knew the whole
+  -- chain of each name that it kept
   pub record Together (p : S) (v w : View E N) : Type 0 where
     pub left : (a : ℕ × E) → In a v.seen → In a (union v.seen w.seen)
     pub right : (a : ℕ × E) → In a w.seen → In a (union v.seen w.seen)

@@ -60,11 +60,14 @@ impl<P: Parts> Pass<P> {
     ghost use Rattle.dm_spine.specs.Passes.{IsBeside, parts_of, view_of, seen_by, kept_by, past_of};
 
     /// Draws the note's entry: it comes into the history at the number answered, above all that this pass had seen.
-    /// A draw is never refused.
+    /// A draw is never refused. It is allowed where this pass keeps every name that the entry is about, what the entry
+    /// makes is new, the entry fits this pass's past, and its home has fewer than 2 to the 48th entries
+    /// (docs/DEFINITIONS.md, "The shared history").
     pub fn draw<N: Note<P>>(&mut self, note: &N) -> u64
         requires { MayDraw P.meaning (parts_of self.old) (N.entry note.now) (view_of self.old) }
         ensures spine { IsBeside self.old self.new }
-        ensures drawn { Draws P.meaning (parts_of self.old) (N.entry note.now) (view_of self.old) result (view_of self.new) }
+        ensures drawn { Draws P.meaning (parts_of self.old) (N.entry note.now)
+            (view_of self.old) result (view_of self.new) }
     {
         draw_at::<P, N, Brand>(&self.table, &mut self.seat, note)
     }
@@ -76,7 +79,8 @@ impl<P: Parts> Pass<P> {
         ensures refused { OnErr result (view_of self.new ≡ view_of self.old) }
         ensures spine { IsBeside self.old self.new }
         ensures beside { IfOk result (λ other. IsBeside self.old other) }
-        ensures left { OnOk result (view_of self.new ≡ view (seen_by self.old) (without P.meaning names.items (kept_by self.old))) }
+        ensures left { OnOk result (view_of self.new
+            ≡ view (seen_by self.old) (without P.meaning names.items (kept_by self.old))) }
         ensures right { IfOk result (λ other. view_of other ≡ view (seen_by self.old) names.items) }
     {
         let table = Arc::try_clone(&self.table)?;
@@ -84,7 +88,8 @@ impl<P: Parts> Pass<P> {
         Ok(Pass { table, seat })
     }
 
-    /// Takes in the other pass: this one has then seen what either had seen, and keeps all names of both.
+    /// Takes in the other pass: this one has then seen what either had seen, and keeps all names of both. The past is
+    /// legal then, and what each pass had seen is a part of it. A join takes no memory and is never refused.
     pub fn join(&mut self, other: Pass<P>)
         requires { IsBeside self.old other }
         ensures spine { IsBeside self.old self.new }
@@ -96,12 +101,14 @@ impl<P: Parts> Pass<P> {
         join_at::<P, Brand>(&self.table, &mut self.seat, seat);
     }
 
-    /// Hands the name over to the other pass, which has then also seen what this one has seen.
+    /// Hands the name over to the other pass, which has then also seen what this one has seen, and so the whole chain
+    /// of the name. It takes no memory and is never refused.
     pub fn give(&mut self, other: &mut Pass<P>, name: P::Name)
         requires spine { IsBeside self.old other.old }
         requires keeps { In name (kept_by self.old) }
         ensures spine { IsBeside self.old self.new × IsBeside other.old other.new }
-        ensures gives { Gives P.meaning (parts_of self.old) name (view_of self.old) (view_of other.old) (view_of self.new) (view_of other.new) }
+        ensures gives { Gives P.meaning (parts_of self.old) name
+            (view_of self.old) (view_of other.old) (view_of self.new) (view_of other.new) }
     {
         let seat = cut_at::<P, P::Name, Brand>(&self.table, &mut self.seat, &name);
         join_at::<P, Brand>(&other.table, &mut other.seat, seat);

@@ -15,14 +15,15 @@ pub struct View<E, N> {
 }
 
 /// A seat's views: one, two while a join is under way, and none when it is spent.
-pub type Sight<P> = LinkedList<View<<P as Parts>::Entry, <P as Parts>::Name>>;
+pub(crate) type Sight<P> = LinkedList<View<<P as Parts>::Entry, <P as Parts>::Name>>;
 
 /// The rule of a spine's table.
-pub struct Ruled<P: Parts> {
+pub(crate) struct Ruled<P: Parts> {
     marker: PhantomData<P>,
 }
 
-pub type Rows<P> = Table<(), Sight<P>, P, Ruled<P>, Global>;
+/// A spine's table: one word, which counts the history, and no slot.
+pub(crate) type Rows<P> = Table<(), Sight<P>, P, Ruled<P>, Global>;
 
 impl<P: Parts> TableRule<(), LinkedList<View<P::Entry, P::Name>>, P> for Ruled<P> {
     ghost holds = { Kept P.meaning };

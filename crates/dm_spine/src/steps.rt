@@ -1,7 +1,9 @@
-//! The atomic steps on the spine's word, as plays, a split and a join of its table.
+//! The atomic steps on the spine's word. The types say what each kind of step does to the views of seats; the functions
+//! take a step, and tell what it shows. What a step is told (`Said`) is there for the proof alone.
 ghost use Rattle.std.specs.Prelude.{◌≡◌, [], ◌∷◌, ◌++◌, IfSome, IsSomeAnd};
 ghost use Rattle.dm_spine.specs.Past.{In, Legal};
-ghost use Rattle.dm_spine.specs.Rule.{IsSeated, IsSound, MayDraw, Draws, Together, sight, view, joined, without};
+ghost use Rattle.dm_spine.specs.Rule.{IsSeated, IsSound, MayDraw, Draws, Together};
+ghost use Rattle.dm_spine.specs.Rule.{sight, view, joined, without};
 ghost use Rattle.dm_spine.specs.Steps.{draws_as, settles_as, looks_as, cut_left, cut_right};
 
 use crate::parts::Parts;
@@ -61,16 +63,18 @@ impl<P: Parts, W: Said<P>> Play<(), LinkedList<View<P::Entry, P::Name>>> for Loo
     ghost then = { λ s v n w. looks_as P.meaning W.said v w };
 }
 
-/// Draws the entry said. The note is there for the pick alone.
+/// Draws the entry said. The note is there for the proof alone: the caller's pick of what is said reads it.
 pub(crate) fn draw_at<P: Parts, X, W: Said<(P, P::Entry)>>(
     table: &Rows<P>,
     seat: &mut Seat<(), Sight<P>>,
     note: &X,
 ) -> u64
     requires seated { IsSeated table.now.shared.table_id seat.old.table_id seat.old.me }
-    requires may { IsSomeAnd W.said (λ a. (a.0 ≡ table.now.shared.key) × MayDraw P.meaning a.0 a.1 (sight seat.old.me.0)) }
+    requires may { IsSomeAnd W.said (λ a. (a.0 ≡ table.now.shared.key)
+        × MayDraw P.meaning a.0 a.1 (sight seat.old.me.0)) }
     ensures seated { IsSeated table.now.shared.table_id seat.new.table_id seat.new.me }
-    ensures drawn { IfSome W.said (λ a. Draws P.meaning a.0 a.1 (sight seat.old.me.0) result (sight seat.new.me.0)) }
+    ensures drawn { IfSome W.said (λ a. Draws P.meaning a.0 a.1
+        (sight seat.old.me.0) result (sight seat.new.me.0)) }
 {
     let _ = note;
     table.shared.fetch_add::<Draw<P, W>>(seat, 0, 1)
@@ -83,9 +87,11 @@ pub(crate) fn cut_at<P: Parts, X, W: Said<LinkedList<P::Name>>>(
     names: &X,
 ) -> Seat<(), Sight<P>>
     requires seated { IsSeated table.now.shared.table_id seat.old.table_id seat.old.me }
-    requires keeps { IsSomeAnd W.said (λ names. (x : P.Name) → In x names → In x (sight seat.old.me.0).keeps) }
+    requires keeps { IsSomeAnd W.said (λ names. (x : P.Name) → In x names
+        → In x (sight seat.old.me.0).keeps) }
     ensures seated { IsSeated table.now.shared.table_id seat.new.table_id seat.new.me }
-    ensures left { IfSome W.said (λ names. sight seat.new.me.0 ≡ view (sight seat.old.me.0).seen (without P.meaning names (sight seat.old.me.0).keeps)) }
+    ensures left { IfSome W.said (λ names. sight seat.new.me.0
+        ≡ view (sight seat.old.me.0).seen (without P.meaning names (sight seat.old.me.0).keeps)) }
     ensures right_seated { IsSeated table.now.shared.table_id result.table_id result.me }
     ensures right { IfSome W.said (λ names. sight result.me.0 ≡ view (sight seat.old.me.0).seen names) }
 {
@@ -103,8 +109,10 @@ pub(crate) fn join_at<P: Parts, W: Said<P>>(
     requires other_seated { IsSeated table.now.shared.table_id other.table_id other.me }
     requires key { IsSomeAnd W.said (λ p. p ≡ table.now.shared.key) }
     ensures seated { IsSeated table.now.shared.table_id seat.new.table_id seat.new.me }
-    ensures joined { IfSome W.said (λ p. sight seat.new.me.0 ≡ joined (sight seat.old.me.0) (sight other.me.0)) }
-    ensures together { IfSome W.said (λ p. Together P.meaning p (sight seat.old.me.0) (sight other.me.0)) }
+    ensures joined { IfSome W.said (λ p. sight seat.new.me.0
+        ≡ joined (sight seat.old.me.0) (sight other.me.0)) }
+    ensures together { IfSome W.said (λ p. Together P.meaning p
+        (sight seat.old.me.0) (sight other.me.0)) }
 {
     table.shared.join_seat::<Both<P>>(seat, other);
     table.shared.load::<Settle<P, W>>(seat, 0);

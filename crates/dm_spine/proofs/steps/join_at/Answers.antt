@@ -1,4 +1,4 @@
-use Rattle.std.proofs.Common.{ap, ◌∙◌, arith}
+use Rattle.std.proofs.Common.{◌∙◌, arith}
 use Rattle.dm_spine.proofs.Shares.{joins_said, settle_said, settled}
 use Rattle.dm_spine.proofs.steps.join_at.Goals as goal
 
@@ -20,7 +20,7 @@ load-requires g c =
     let after = c.join_seat.ensures in (
       after.0 ∙ seated.same,
       omega (arith, seated.counted),
-      settle_said g.P.Parts.meaning g.P.Parts.lawful c.args.table.now.shared.key g.W.Said.said c.args.table.now.shared.table_id.slots c.join_seat.new.seat.id c.join_seat.new.seat.me c.args.seat.now.me.0 c.args.other.me.0 (ap (λ t. t.0) after.2) seated.single other.single (ap (λ t. t.1) after.2 ∙ seated.bare) c.requires.key,
+      settle_said g.P.Parts.meaning g.P.Parts.lawful c.args.table.now.shared.key g.W.Said.said c.args.table.now.shared.table_id.slots c.join_seat.new.seat.id c.join_seat.new.seat.me c.args.seat.now.me.0 c.args.other.me.0 c.args.seat.now.me.1 after.2 seated.single other.single seated.bare c.requires.key,
     )
 
 pub returns-clause-seated : goal.returns-clause-seated
@@ -28,5 +28,5 @@ returns-clause-seated g c =
     let seated = c.requires.seated in
     let other = c.requires.other_seated in
     let after = c.join_seat.ensures in
-    let t = settled g.P.Parts.meaning g.P.Parts.lawful c.args.table.now.shared.key g.W.Said.said c.join_seat.new.seat.me c.load.new.seat.me c.args.seat.now.me.0 c.args.other.me.0 (ap (λ t. t.0) after.2) seated.single other.single c.requires.key c.load.ensures.2 in
+    let t = settled g.P.Parts.meaning g.P.Parts.lawful c.args.table.now.shared.key g.W.Said.said c.join_seat.new.seat.me c.load.new.seat.me c.args.seat.now.me.0 c.args.other.me.0 c.args.seat.now.me.1 after.2 seated.single other.single c.requires.key c.load.ensures.2 in
     record { same = c.load.ensures.0 ∙ (after.0 ∙ seated.same); counted = seated.counted; bare = t.0; single = t.1 }
