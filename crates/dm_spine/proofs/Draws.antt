@@ -77,6 +77,7 @@ module _ {S N E : Type 0} (m : Meaning S N E) (ok : Lawful m) (p : S) where
   view_other log z u above apart h = record {
     part = record {
       rises = h.part.rises;
+      ordered = rises_last 0 log z (omega arith) above h.part.ordered;
       within = λ a t. longer log z a (h.part.within a t);
       chained = λ x a b t k l about about'. ⊎_elim
           (λ w. h.part.chained x a b t w l about about')
@@ -118,6 +119,7 @@ module _ {S N E : Type 0} (m : Meaning S N E) (ok : Lawful m) (p : S) where
       record {
         part = record {
           rises = rises_last 0 v.seen z (omega arith) seen_above h.part.rises;
+          ordered = rises_last 0 log z (omega arith) above g.rises;
           within = λ a t. ⊎_elim (λ u. longer log z a (h.part.within a u)) (λ u. in_right a log (z ∷ []) u) (in_append a v.seen (z ∷ []) t);
           chained = λ x a b t k l about about'. longer v.seen z b (before x a b l about about' (in_append a v.seen (z ∷ []) t) (in_append b log (z ∷ []) k));
         };

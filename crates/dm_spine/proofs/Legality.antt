@@ -60,9 +60,9 @@ module _ {S N E : Type 0} (m : Meaning S N E) where
     pub left : (x : N) (a b : ℕ × E) → In a xs → In b ys → b.0 < a.0 → m.about a.1 x ≡ true → m.about b.1 x ≡ true → In b xs
     pub right : (x : N) (a b : ℕ × E) → In a ys → In b xs → b.0 < a.0 → m.about a.1 x ≡ true → m.about b.1 x ≡ true → In b ys
 
-  pub parts_meet : (log xs ys : List (ℕ × E)) → Rises 0 log → IsPart m xs log → IsPart m ys log → Meets xs ys
-  parts_meet log xs ys r v w = record {
-    numbers = parts_one m log xs ys r v w;
+  pub parts_meet : (log xs ys : List (ℕ × E)) → IsPart m xs log → IsPart m ys log → Meets xs ys
+  parts_meet log xs ys v w = record {
+    numbers = parts_one m log xs ys v w;
     left = λ x a b h k l s t. v.chained x a b h (w.within b k) l s t;
     right = λ x a b h k l s t. w.chained x a b h (v.within b k) l s t;
   }
@@ -107,6 +107,7 @@ module _ {S N E : Type 0} (m : Meaning S N E) where
       let last : ℕ × E = (n, e) in
       let part : IsPart m (below n xs) (below n all) = record {
         rises = rx;
+        ordered = rises_filter (λ t. nat_lt t.0 n) 0 all s;
         within = within;
         chained = λ x a b t k l u v. let ta = below_in n a xs t in let tb = below_in n b all k in in_below n b xs (known x a b ta.0 tb.0 l u v) tb.1;
       } in

@@ -17,28 +17,30 @@ module _ {E : Type 0} where
 
 module _ {S N E : Type 0} (m : Meaning S N E) where
   pub part_self : (log : List (ℕ × E)) → Rises 0 log → IsPart m log log
-  part_self log r = record { rises = r; within = λ a h. h; chained = λ x a b h k l s t. k }
+  part_self log r = record { rises = r; ordered = r; within = λ a h. h; chained = λ x a b h k l s t. k }
 
   -- two parts of one history have one entry at each number
-  pub parts_one : (log xs ys : List (ℕ × E)) → Rises 0 log → IsPart m xs log → IsPart m ys log → OneAt xs ys
-  parts_one log xs ys r v w a b h k e = one_at log r a b (v.within a h) (w.within b k) e
+  pub parts_one : (log xs ys : List (ℕ × E)) → IsPart m xs log → IsPart m ys log → OneAt xs ys
+  parts_one log xs ys v w a b h k e = one_at log v.ordered a b (v.within a h) (w.within b k) e
 
-  union_chained : (log xs ys : List (ℕ × E)) → Rises 0 log → IsPart m xs log → IsPart m ys log → (x : N) (a b : ℕ × E) → In a xs ⊎ In a ys → In b log → b.0 < a.0 → m.about a.1 x ≡ true → m.about b.1 x ≡ true → In b (union xs ys)
-  union_chained log xs ys r v w x a b (inl h) k l s t = union_left 0 b xs ys v.rises (parts_one log xs ys r v w) (v.chained x a b h k l s t)
-  union_chained log xs ys r v w x a b (inr h) k l s t = union_right b xs ys (w.chained x a b h k l s t)
+  union_chained : (log xs ys : List (ℕ × E)) → IsPart m xs log → IsPart m ys log → (x : N) (a b : ℕ × E) → In a xs ⊎ In a ys → In b log → b.0 < a.0 → m.about a.1 x ≡ true → m.about b.1 x ≡ true → In b (union xs ys)
+  union_chained log xs ys v w x a b (inl h) k l s t = union_left 0 b xs ys v.rises (parts_one log xs ys v w) (v.chained x a b h k l s t)
+  union_chained log xs ys v w x a b (inr h) k l s t = union_right b xs ys (w.chained x a b h k l s t)
 
   -- the union of two parts is a part
-  pub union_part : (log xs ys : List (ℕ × E)) → Rises 0 log → IsPart m xs log → IsPart m ys log → IsPart m (union xs ys) log
-  union_part log xs ys r v w = record {
+  pub union_part : (log xs ys : List (ℕ × E)) → IsPart m xs log → IsPart m ys log → IsPart m (union xs ys) log
+  union_part log xs ys v w = record {
     rises = rises_union 0 xs ys v.rises w.rises;
+    ordered = v.ordered;
     within = λ a h. ⊎_elim (λ k. v.within a k) (λ k. w.within a k) (in_union a xs ys h);
-    chained = λ x a b h k l s t. union_chained log xs ys r v w x a b (in_union a xs ys h) k l s t;
+    chained = λ x a b h k l s t. union_chained log xs ys v w x a b (in_union a xs ys h) k l s t;
   }
 
   -- a part of a history is a part of each of its larger parts
   pub part_within : (log xs ys : List (ℕ × E)) → IsPart m xs log → IsPart m ys log → ((a : ℕ × E) → In a xs → In a ys) → IsPart m xs ys
   part_within log xs ys v w f = record {
     rises = v.rises;
+    ordered = w.rises;
     within = f;
     chained = λ x a b h k l s t. v.chained x a b h (w.within b k) l s t;
   }

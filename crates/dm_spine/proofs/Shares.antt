@@ -43,7 +43,7 @@ module _ {S N E : Type 0} (m : Meaning S N E) (ok : Lawful m) (p : S) where
   ) where
     first_view : IsView m p [] (view [] (m.fixed p))
     first_view = record {
-      part = record { rises = tt; within = λ a t. t; chained = λ x a b t k l u w. t };
+      part = record { rises = tt; ordered = tt; within = λ a t. t; chained = λ x a b t k l u w. t };
       legal = λ n e t. absurd t;
       whole = λ x k b t about. t;
       lives = λ x k b t ends. t;
@@ -203,10 +203,10 @@ module _ {S N E : Type 0} (m : Meaning S N E) (ok : Lawful m) (p : S) where
 
   view_joined : (log : List (ℕ × E)) (v w : View E N) → IsLog m p log → IsView m p log v → IsView m p log w → IsView m p log (joined v w)
   view_joined log v w g h k =
-      let one = parts_one m log v.seen w.seen g.rises h.part k.part in
+      let one = parts_one m log v.seen w.seen h.part k.part in
       record {
-        part = union_part m log v.seen w.seen g.rises h.part k.part;
-        legal = union_meets m ok p v.seen w.seen h.part.rises k.part.rises (parts_meet m log v.seen w.seen g.rises h.part k.part) h.legal k.legal;
+        part = union_part m log v.seen w.seen h.part k.part;
+        legal = union_meets m ok p v.seen w.seen h.part.rises k.part.rises (parts_meet m log v.seen w.seen h.part k.part) h.legal k.legal;
         whole = λ x t b o about. ⊎_elim
             (λ u. union_left 0 b v.seen w.seen h.part.rises one (h.whole x u b o about))
             (λ u. union_right b v.seen w.seen (k.whole x u b o about))
@@ -220,7 +220,7 @@ module _ {S N E : Type 0} (m : Meaning S N E) (ok : Lawful m) (p : S) where
 
   together : (log : List (ℕ × E)) (v w : View E N) → IsLog m p log → IsView m p log v → IsView m p log w → ((x : N) → In x v.keeps → In x w.keeps → ⊥) → Together m p v w
   together log v w g h k apart =
-      let one = parts_one m log v.seen w.seen g.rises h.part k.part in
+      let one = parts_one m log v.seen w.seen h.part k.part in
       let all = view_joined log v w g h k in
       let left : (a : ℕ × E) → In a v.seen → In a (union v.seen w.seen) = λ a t. union_left 0 a v.seen w.seen h.part.rises one t in
       let right : (a : ℕ × E) → In a w.seen → In a (union v.seen w.seen) = λ a t. union_right a v.seen w.seen t in

@@ -35,15 +35,16 @@ module _ {S N E : Type 0} (m : Meaning S N E) where
   pub part_then : (xs ys zs : List (ℕ × E)) → IsPart m xs ys → IsPart m ys zs → IsPart m xs zs
   part_then xs ys zs v w = record {
     rises = v.rises;
+    ordered = w.ordered;
     within = λ a t. w.within a (v.within a t);
     chained = λ x a b t k l about about'. v.chained x a b t (w.chained x a b (v.within a t) k l about about') l about about';
   }
 
   -- what a past has of a name's chain begins the chain
-  pub chain_begins : (x : N) (xs log : List (ℕ × E)) → Rises 0 log → IsPart m xs log → (rest : List (ℕ × E)) × (chain m x log ≡ chain m x xs ++ rest)
-  chain_begins x xs log r v =
+  pub chain_begins : (x : N) (xs log : List (ℕ × E)) → IsPart m xs log → (rest : List (ℕ × E)) × (chain m x log ≡ chain m x xs ++ rest)
+  chain_begins x xs log v =
       let p : ℕ × E → Bool = λ a. m.about a.1 x in
-      begins 0 0 (chain m x xs) (chain m x log) (rises_filter p 0 xs v.rises) (rises_filter p 0 log r)
+      begins 0 0 (chain m x xs) (chain m x log) (rises_filter p 0 xs v.rises) (rises_filter p 0 log v.ordered)
       (λ a t. let k = in_filter p a xs t in filter_in p a log (v.within a k.0) k.1)
       (λ a b t o l. let k = in_filter p a xs t in let j = in_filter p b log o in filter_in p b xs (v.chained x a b k.0 j.0 l k.1 j.1) j.1)
 
@@ -52,16 +53,16 @@ module _ {S N E : Type 0} (m : Meaning S N E) where
   at_front (x ∷ xs) ys zero a e = e
   at_front (x ∷ xs) ys (suc i) a e = at_front xs ys i a e
 
-  at_chain : (x : N) (xs log : List (ℕ × E)) → Rises 0 log → IsPart m xs log → (i : ℕ) (a : ℕ × E) → At (chain m x xs) i a → At (chain m x log) i a
-  at_chain x xs log r v i a e =
-      let t = chain_begins x xs log r v in
+  at_chain : (x : N) (xs log : List (ℕ × E)) → IsPart m xs log → (i : ℕ) (a : ℕ × E) → At (chain m x xs) i a → At (chain m x log) i a
+  at_chain x xs log v i a e =
+      let t = chain_begins x xs log v in
       let P : List (ℕ × E) → Type 0 = λ c. At c i a in subst P (sym t.1) (at_front (chain m x xs) t.0 i a e)
 
   -- two parts of one history agree
-  pub parts_agree : (log xs ys : List (ℕ × E)) → Rises 0 log → IsPart m xs log → IsPart m ys log → Agree m xs ys
-  parts_agree log xs ys r v w = record {
-    numbers = parts_one m log xs ys r v w;
-    places = λ x i a b t u. let f = at_chain x xs log r v i a t in let g = at_chain x ys log r w i b u in some_same a b (sym f ∙ g);
+  pub parts_agree : (log xs ys : List (ℕ × E)) → IsPart m xs log → IsPart m ys log → Agree m xs ys
+  parts_agree log xs ys v w = record {
+    numbers = parts_one m log xs ys v w;
+    places = λ x i a b t u. let f = at_chain x xs log v i a t in let g = at_chain x ys log w i b u in some_same a b (sym f ∙ g);
   } where
     some_same : (a b : ℕ × E) → Some a ≡ Some b → a ≡ b
     some_same a b e = cc
@@ -75,7 +76,7 @@ module _ {S N E : Type 0} (m : Meaning S N E) where
 module _ {S N E : Type 0} {m : Meaning S N E} {p : S} {v w : View E N} (t : Together m p v w) where
   -- passes that are joined had agreed
   pub together_agree : Agree m v.seen w.seen
-  together_agree = parts_agree m (union v.seen w.seen) v.seen w.seen t.sound.rises t.left_part t.right_part
+  together_agree = parts_agree m (union v.seen w.seen) v.seen w.seen t.left_part t.right_part
 
 -- What a draw tells.
 module _ {S N E : Type 0} {m : Meaning S N E} {p : S} {e : E} {v : View E N} {n : ℕ} {w : View E N} (d : Draws m p e v n w) where
@@ -94,6 +95,7 @@ module _ {S N E : Type 0} {m : Meaning S N E} {p : S} {e : E} {v : View E N} {n 
       let R : List (ℕ × E) → Type 0 = λ xs. Rises 0 xs in
       subst P (sym drawn_seen) record {
         rises = rises_front 0 v.seen ((n, e) ∷ []) (subst R drawn_seen d.sound.rises);
+        ordered = subst R drawn_seen d.sound.rises;
         within = λ a t. in_left a v.seen ((n, e) ∷ []) t;
         chained = λ x a b t k l about about'. ⊎_elim
             (λ u. u)

@@ -67,9 +67,10 @@ module _ {S N E : Type 0} (m : Meaning S N E) where
   abbrev pub Made : N → List (ℕ × E) → Type 0
   Made x xs = (a : ℕ × E) × In a xs × In x (m.makes a.0 a.1)
 
-  -- xs is a part of the history: with an entry it has each earlier one about the same name
+  -- xs is a part of the history log: with an entry it has each earlier one about the same name
   pub record IsPart (xs log : List (ℕ × E)) : Type 0 where
     pub rises : Rises 0 xs
+    pub ordered : Rises 0 log
     pub within : (a : ℕ × E) → In a xs → In a log
     pub chained : (x : N) (a b : ℕ × E) → In a xs → In b log → b.0 < a.0
         → m.about a.1 x ≡ true → m.about b.1 x ≡ true → In b xs
