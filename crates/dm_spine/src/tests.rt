@@ -1,5 +1,5 @@
 //! Two counters, whose entries are the numbers of the counter that was added to.
-ghost use Rattle.std.specs.Prelude.{◌≡◌, ◌==◌, ◌<◌, false, [], ◌∷◌, refl, length};
+ghost use Rattle.std.specs.Prelude.{◌≡◌, ◌==◌, false, [], ◌∷◌, refl};
 ghost use Rattle.std.proofs.Common.{lit≤, sym, true≢false};
 ghost use Rattle.std.proofs.lemmas.Bool.{eqb-true, eq-eqb};
 ghost use Rattle.dm_spine.specs.Past.{In};
@@ -52,7 +52,7 @@ impl Note<Counters> for Added {
 
 fn add(pass: &mut Pass<Counters>, counter: u8) -> u64
     requires keeps { In counter (kept_by pass.old) }
-    requires few { seen_by pass.old ≡ [] }
+    requires nothing_seen { seen_by pass.old ≡ [] }
     ensures beside { IsBeside pass.old pass.new }
     ensures keeps { kept_by pass.new ≡ kept_by pass.old }
 {
