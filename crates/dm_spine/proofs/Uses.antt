@@ -12,7 +12,9 @@ use Rattle.dm_spine.proofs.Lists.{in_left, in_right, in_append, in_filter, filte
 use Rattle.dm_spine.proofs.Portions.{at_home_about, parts_one}
 use Rattle.dm_spine.proofs.Legality.{At}
 use Rattle.dm_spine.proofs.Counts.{length-filter_le, at_home-more, at_home-other}
-use Rattle.dm_spine.proofs.Seats.{in_one, has_in, in_without, without_in}
+use Rattle.dm_spine.proofs.Seats.{in_one}
+pub use Rattle.dm_spine.proofs.Seats.{has_in, has_it, in_without, without_in}
+pub use Rattle.dm_spine.proofs.Legality.{union_is_legal}
 
 module _ {S N E : Type 0} where
   -- passes of one spine have one opening value

@@ -73,7 +73,8 @@ impl<P: Parts> Pass<P> {
     }
 
     /// A new pass with a copy of this past, which keeps these names; this pass gives them up. With no names the new
-    /// pass is a mere note of the past. With `NoMemory` nothing has changed.
+    /// pass is a mere note of the past. `NoMemory` comes where the spine's passes can be counted no further; nothing
+    /// has changed then.
     pub fn split(&mut self, alloc: Global, names: Vec<P::Name>) -> Result<Pass<P>, NoMemory>
         requires { (x : P.Name) → In x names.items → In x (kept_by self.old) }
         ensures refused { OnErr result (view_of self.new ≡ view_of self.old) }
