@@ -10,7 +10,7 @@ ghost use Rattle.dm_tables.specs.Rows.{row_after};
 use dm_base::NoMemory;
 use std::alloc::Global;
 use std::collections::BTreeMap;
-use std::collections::btree_map::Iter;
+use std::collections::btree_map::{IntoIter, Iter};
 use std::marker::Model;
 use std::mem;
 use std::ops::Bound;
@@ -90,6 +90,16 @@ impl<V> Numbers<V> {
         ensures removed { self.new ≡ map.remove self.old key }
     {
         self.rows.remove(&key)
+    }
+
+    // The rows with their numbers, moved out, in the order of the numbers.
+    pub(crate) fn into_entries(self) -> IntoIter<u128, V>
+    where
+        V: Drop,
+        ensures { result ≡ map.entries self }
+    {
+        let Numbers { rows } = self;
+        rows.into_iter()
     }
 
     /// How many rows there are.
