@@ -47,9 +47,9 @@ read_more text rest n place told fits right r =
       each = each_push r.chunks c r.each p.is_chunk;
       count = length-append r.chunks (c ∷ []) ∙ ap (λ k. k + 1) r.count;
       told_is = ap (λ es. es ++ entry_at place rest ∷ []) r.told_is
-        ∙ ap (λ e. entries 32 r.chunks ++ e ∷ []) (sym told_one)
-        ∙ ap (λ k. entries 32 r.chunks ++ entry k c ∷ []) r.place_is
-        ∙ sym (entries_push 32 r.chunks c);
+          ∙ ap (λ e. entries 32 r.chunks ++ e ∷ []) (sym told_one)
+          ∙ ap (λ k. entries 32 r.chunks ++ entry k c ∷ []) r.place_is
+          ∙ sym (entries_push 32 r.chunks c);
       place_is = omega (arith, r.place_is, ap length one, length-append flat (chunk_text c), length-chunk_text c p.is_chunk, p.count);
     }
 
@@ -83,10 +83,10 @@ begins bytes rest count epoch whole chunks fits right h each behind =
     let n = zone_numbers bytes fits right in
     record {
       spelled = zone_header_is bytes fits right
-        ∙ ap (λ k. zone_front k (number_at w32 4 bytes) (number_at w64 16 bytes) ++ drop 32 bytes) (sym h.epoch_is)
-        ∙ ap (λ k. zone_front epoch k (number_at w64 16 bytes) ++ drop 32 bytes) (sym h.count_is)
-        ∙ ap (λ k. zone_front epoch count k ++ drop 32 bytes) (sym h.whole_is)
-        ∙ ap (λ t. zone_front epoch count whole ++ t) behind;
+          ∙ ap (λ k. zone_front k (number_at w32 4 bytes) (number_at w64 16 bytes) ++ drop 32 bytes) (sym h.epoch_is)
+          ∙ ap (λ k. zone_front epoch k (number_at w64 16 bytes) ++ drop 32 bytes) (sym h.count_is)
+          ∙ ap (λ k. zone_front epoch count k ++ drop 32 bytes) (sym h.whole_is)
+          ∙ ap (λ t. zone_front epoch count whole ++ t) behind;
       epoch_fits = omega (arith, h.epoch_is, n.epoch_fits);
       some = omega (arith, h.count_is, n.count_some);
       count_fits = omega (arith, h.count_is, n.count_fits);
@@ -136,8 +136,7 @@ stand_from bytes front rest place (c ∷ cs) at each spelled =
     let first : bytes ≡ front ++ (chunk_text c ++ later) = spelled ∙ ap (λ t. front ++ t) (append_assoc (chunk_text c) (flat_map chunk_text cs) rest) in
     let cut : bytes ≡ (front ++ header) ++ (c.bytes ++ later) = first ∙ ap (λ t. front ++ (t ++ later)) (chunk_text_is c each.0) ∙ ap (λ t. front ++ t) (append_assoc header c.bytes later) ∙ sym (append_assoc front header (c.bytes ++ later)) in
     let long : length (front ++ header) ≡ place + 48 = omega (arith, at, length-append front header, length-chunk_front c.bfid c.offset (length c.bytes) c.total) in
-    let there : drop (place + 48) bytes ≡ c.bytes ++ later = ap (drop (place + 48)) cut ∙ drop_at (front ++ header) (c.bytes ++ later) (place + 48) long in
-    (
+    let there : drop (place + 48) bytes ≡ c.bytes ++ later = ap (drop (place + 48)) cut ∙ drop_at (front ++ header) (c.bytes ++ later) (place + 48) long in (
       ap (take (length c.bytes)) there ∙ take_at c.bytes later (length c.bytes) refl,
       stand_from bytes (front ++ chunk_text c) rest (place + length (chunk_text c)) cs (omega (arith, at, length-append front (chunk_text c))) each.1 (first ∙ sym (append_assoc front (chunk_text c) later)),
     )
@@ -154,8 +153,7 @@ spells bytes rest count epoch whole end told fits right h r same none =
     let b = begins bytes rest count epoch whole r.chunks fits right h r.each r.spelled in
     let flat = flat_map chunk_text r.chunks in
     let all : flat ++ rest ≡ flat = ap (λ t. flat ++ t) (nil_from_length rest none) ∙ append-nil flat in
-    let spelled : bytes ≡ zone epoch r.chunks = b.spelled ∙ ap (λ t. zone_front epoch count whole ++ t) all ∙ ap (λ k. zone_front epoch k whole ++ flat) (sym r.count) ∙ ap (λ k. zone_front epoch (length r.chunks) k ++ flat) (same ∙ r.place_is) in
-    (
+    let spelled : bytes ≡ zone epoch r.chunks = b.spelled ∙ ap (λ t. zone_front epoch count whole ++ t) all ∙ ap (λ k. zone_front epoch k whole ++ flat) (sym r.count) ∙ ap (λ k. zone_front epoch (length r.chunks) k ++ flat) (same ∙ r.place_is) in (
       r.chunks,
       record {
         spelled = spelled;

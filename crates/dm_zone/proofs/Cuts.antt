@@ -119,8 +119,7 @@ cut_into_chunks (suc count) bfid total offset bytes chunk b t some within reach 
     let rest = drop chunk bytes in
     let long = length-take chunk bytes in
     let left = length-drop chunk bytes in
-    let left_reach : count * chunk < length bytes = omega (arith, reach) in
-    (
+    let left_reach : count * chunk < length bytes = omega (arith, reach) in (
       record { bfid = b; total = t; some = omega (arith, long, some, left_reach); within = omega (arith, long, within); unsealed = refl },
       cut_into_chunks count bfid total (offset + length front) rest chunk b t some (omega (arith, long, left, within)) (omega (arith, left, left_reach, some)),
     )

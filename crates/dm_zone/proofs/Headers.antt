@@ -44,9 +44,9 @@ zone_header_is bytes fits (mark, (count, (epoch, (whole, (zeros, end))))) =
     let z = eqb-true (number_at w64 24 bytes) 0 zeros.allowed in
     e0 ∙ ap (λ k. to_be_bytes w32 k ++ drop 4 bytes) m
     ∙ ap (λ t. codes "ZONE" ++ t) (e1
-        ∙ ap (λ t. to_be_bytes w32 (number_at w32 4 bytes) ++ t) (e2
-            ∙ ap (λ t. to_be_bytes w64 (number_at w64 8 bytes) ++ t) (e3
-                ∙ ap (λ t. to_be_bytes w64 (number_at w64 16 bytes) ++ t) (e4 ∙ ap (λ k. to_be_bytes w64 k ++ drop 32 bytes) z))))
+    ∙ ap (λ t. to_be_bytes w32 (number_at w32 4 bytes) ++ t) (e2
+    ∙ ap (λ t. to_be_bytes w64 (number_at w64 8 bytes) ++ t) (e3
+    ∙ ap (λ t. to_be_bytes w64 (number_at w64 16 bytes) ++ t) (e4 ∙ ap (λ k. to_be_bytes w64 k ++ drop 32 bytes) z))))
 
 pub record ZoneNumbers (bytes : List ℕ) : Type 0 where
   pub count_some : 0 < number_at w32 4 bytes
@@ -82,8 +82,7 @@ zone_right epoch count whole rest e some c w =
     let bytes = zone_front epoch count whole ++ rest in
     let long : 32 ≤ length bytes = omega (arith, length-append (zone_front epoch count whole) rest, length-zone_front epoch count whole) in
     let marks = zone_marks epoch count whole rest in
-    let n = (zone_spelled epoch count whole rest e c w).count_is in
-    (
+    let n = (zone_spelled epoch count whole rest e c w).count_is in (
       record { there = omega (arith, long); allowed = eq-eqb (number_at w32 0 bytes) (letters (codes "ZONE")) marks.0 },
       (
         record { there = omega (arith, long); allowed = lt-ltb 0 (number_at w32 4 bytes) (omega (arith, n, some)) },
@@ -116,10 +115,10 @@ chunk_header_is bytes fits (mark, (zeros, (bfid, (offset, (count, (total, (text,
     let z = eqb-true (number_at w32 4 bytes) 0 zeros.allowed in
     e0 ∙ ap (λ k. to_be_bytes w32 k ++ drop 4 bytes) m
     ∙ ap (λ t. codes "CHNK" ++ t) (e1 ∙ ap (λ k. to_be_bytes w32 k ++ drop 8 bytes) z
-        ∙ ap (λ t. replicate 4 0 ++ t) (e2
-            ∙ ap (λ t. to_be_bytes w128 (number_at w128 8 bytes) ++ t) (e3
-                ∙ ap (λ t. to_be_bytes w64 (number_at w64 24 bytes) ++ t) (e4
-                    ∙ ap (λ t. to_be_bytes w64 (number_at w64 32 bytes) ++ t) e5))))
+    ∙ ap (λ t. replicate 4 0 ++ t) (e2
+    ∙ ap (λ t. to_be_bytes w128 (number_at w128 8 bytes) ++ t) (e3
+    ∙ ap (λ t. to_be_bytes w64 (number_at w64 24 bytes) ++ t) (e4
+    ∙ ap (λ t. to_be_bytes w64 (number_at w64 32 bytes) ++ t) e5))))
 
 -- bytes whose fields are right are a chunk of the grammar and the rest
 pub record Parts (bytes : List ℕ) : Type 0 where

@@ -184,5 +184,4 @@ pub fn zones_are_read_one_way()
     ensures zone_or_wrong { (bytes : List ℕ) (epoch place : ℕ) (chunks : List Chunk) → IsZone epoch chunks → bytes ≡ zone epoch chunks →
         WrongAt bytes place → ⊥ }
     ensures one_place { (bytes : List ℕ) (place other : ℕ) → WrongAt bytes place → WrongAt bytes other → place ≡ other }
-{
-}
+{}
