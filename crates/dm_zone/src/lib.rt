@@ -12,7 +12,6 @@ mod rooms;
 
 pub use contents::{Zone, ZoneChunk};
 pub use decode::{decode_zone, zones_are_read_one_way};
-pub use dm_rules::{CHUNK_HEADER, FIRST_ZONE, ZONE_HEADER};
 pub use encode::encode_zone;
 pub use error::ZoneError;
 pub use labels::label;
