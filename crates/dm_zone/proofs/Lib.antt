@@ -5,3 +5,4 @@ pub mod Wide
 pub mod Headers
 pub mod Chunks
 pub mod OneWay
+pub mod Either

@@ -1,7 +1,7 @@
 //! Reading a zone. Each field stands at its place of the tables in docs/FORMATS.md, and they are looked at in
 //! their order, so that an error names the first wrong one.
 
-ghost use Rattle.std.specs.Prelude.{◌≡◌, ◌⊎◌, ◌<◌, ◌≤◌, ◌+◌, ◌^◌, [], drop, length, List, ℕ, IfOk, MatchResult};
+ghost use Rattle.std.specs.Prelude.{◌≡◌, ◌⊎◌, ◌<◌, ◌≤◌, ◌+◌, ◌^◌, [], drop, length, slice_index, List, ℕ, IfOk, MatchResult};
 ghost use Rattle.dm_rules.specs.Zone.{Chunk, zone, zone_header};
 ghost use Rattle.dm_zone.specs.Fields.{AllRight, FirstWrong, chunk_fields, zone_fields};
 ghost use Rattle.dm_zone.specs.Grammar.{IsZone};
@@ -179,6 +179,8 @@ fn chunk_of(bytes: &[u8], place: u64) -> Result<ZoneChunk, u64>
 /// Bytes are one zone, or their first wrong field stands at one place, and never both. Nothing is done: the
 /// contract is the law, for every list of bytes.
 pub fn zones_are_read_one_way()
+    ensures either { (bytes : List ℕ) → ((i : ℕ) → slice_index bytes i < 256) →
+        ((epoch : ℕ) × (chunks : List Chunk) × IsZone epoch chunks × (bytes ≡ zone epoch chunks)) ⊎ ((place : ℕ) × WrongAt bytes place) }
     ensures one_zone { (bytes : List ℕ) (epoch other : ℕ) (chunks others : List Chunk) → IsZone epoch chunks → IsZone other others →
         bytes ≡ zone epoch chunks → bytes ≡ zone other others → (epoch ≡ other) × (chunks ≡ others) }
     ensures zone_or_wrong { (bytes : List ℕ) (epoch place : ℕ) (chunks : List Chunk) → IsZone epoch chunks → bytes ≡ zone epoch chunks →
