@@ -64,16 +64,6 @@ read_next text rest after n place told told' chunk fits right is told_is after_i
     let b = subst (λ (es : List ZoneChunk). Read text (n + 1) es (place + (48 + chunk.len)) (drop (48 + chunk.len) rest)) told_more a in
     subst (λ (t : List ℕ). Read text (n + 1) told' (place + (48 + chunk.len)) t) (sym after_is) b
 
--- the next chunk is wrong
-pub stops : (text rest : List ℕ) (n count place at : ℕ) (told : List ZoneChunk) → n < count → FirstWrong chunk_fields rest at → Read text n told place rest → Stops text count (place + at)
-stops text rest n count place at told fewer wrong r = record {
-  chunks = r.chunks;
-  rest = rest;
-  spelled = r.spelled;
-  each = r.each;
-  wrong = record { fewer = omega (arith, r.count, fewer); at = at; wrong = wrong; place_is = ap (λ k. k + at) r.place_is };
-}
-
 -- ---- the whole zone
 
 -- what was read behind a right header

@@ -50,8 +50,7 @@ stand_more text n fits right s =
 
 stops_more : (text : List ℕ) (n place : ℕ) → IsBytes text → AllRight chunk_fields text → Stops (drop (48 + number_at w64 32 text) text) n place → (later : ℕ) × Stops text (suc n) later
 stops_more text n place fits right s =
-    let p = chunk_parts text fits right in
-    (
+    let p = chunk_parts text fits right in (
       32 + length (flat_map chunk_text (chunk_at text ∷ s.chunks)) + s.wrong.at,
       record {
         chunks = chunk_at text ∷ s.chunks;
@@ -67,14 +66,14 @@ stands zero text fits = inl (record { chunks = []; rest = text; spelled = refl; 
 stands (suc n) text fits =
     elim (known chunk_fields text) [
       | inr w ↦ inr (
-            32 + 0 + w.0,
-            record { chunks = []; rest = text; spelled = refl; each = tt; wrong = record { fewer = omega arith; at = w.0; wrong = w.1; place_is = refl } },
-          )
+        32 + 0 + w.0,
+        record { chunks = []; rest = text; spelled = refl; each = tt; wrong = record { fewer = omega arith; at = w.0; wrong = w.1; place_is = refl } },
+      )
       | inl right ↦
-            elim (stands n (drop (48 + number_at w64 32 text) text) (IsBytes-drop (48 + number_at w64 32 text) text fits)) [
-              | inl s ↦ inl (stand_more text n fits right s)
-              | inr s ↦ inr (stops_more text n s.0 fits right s.1)
-            ]
+          elim (stands n (drop (48 + number_at w64 32 text) text) (IsBytes-drop (48 + number_at w64 32 text) text fits)) [
+            | inl s ↦ inl (stand_more text n fits right s)
+            | inr s ↦ inr (stops_more text n s.0 fits right s.1)
+          ]
     ]
 
 abbrev Answer : List ℕ → Type 0
@@ -87,12 +86,12 @@ answer_of bytes count epoch whole fits right h s =
     elim (cases_eq whole end) [
       | inr differs ↦ inr (16, wrong_length bytes s.rest count epoch whole end (entries 32 s.chunks) fits right h r differs)
       | inl same ↦
-            elim (cases_lt 0 (length s.rest)) [
-              | inl left ↦ inr (end, left_over bytes s.rest count epoch whole end (entries 32 s.chunks) fits right h r same left)
-              | inr none ↦
-                    let z = spells bytes s.rest count epoch whole end (entries 32 s.chunks) fits right h r same (omega arith) in
-                    inl (epoch, z.0, z.1.is_zone, z.1.spelled)
-            ]
+          elim (cases_lt 0 (length s.rest)) [
+            | inl left ↦ inr (end, left_over bytes s.rest count epoch whole end (entries 32 s.chunks) fits right h r same left)
+            | inr none ↦
+                let z = spells bytes s.rest count epoch whole end (entries 32 s.chunks) fits right h r same (omega arith) in
+                inl (epoch, z.0, z.1.is_zone, z.1.spelled)
+          ]
     ]
 
 pub either : (bytes : List ℕ) → IsBytes bytes → Answer bytes
@@ -100,9 +99,9 @@ either bytes fits =
     elim (known zone_fields bytes) [
       | inr w ↦ inr (w.0, inl w.1)
       | inl right ↦
-            let h : IsHeader (number_at w32 4 bytes) (number_at w64 8 bytes) (number_at w64 16 bytes) bytes = record { count_is = refl; epoch_is = refl; whole_is = refl } in
-            elim (stands (number_at w32 4 bytes) (drop 32 bytes) (IsBytes-drop 32 bytes fits)) [
-              | inl s ↦ answer_of bytes _ _ _ fits right h s
-              | inr s ↦ inr (s.0, wrong_in_chunk bytes _ _ _ s.0 fits right h s.1)
-            ]
+          let h : IsHeader (number_at w32 4 bytes) (number_at w64 8 bytes) (number_at w64 16 bytes) bytes = record { count_is = refl; epoch_is = refl; whole_is = refl } in
+          elim (stands (number_at w32 4 bytes) (drop 32 bytes) (IsBytes-drop 32 bytes fits)) [
+            | inl s ↦ answer_of bytes _ _ _ fits right h s
+            | inr s ↦ inr (s.0, wrong_in_chunk bytes _ _ _ s.0 fits right h s.1)
+          ]
     ]

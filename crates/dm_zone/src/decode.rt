@@ -66,12 +66,10 @@ fn read_zone(alloc: Global, bytes: &[u8]) -> Result<Zone, ZoneError>
         Ok(header) => header,
         Err(place) => return Err(ZoneError::BadZone { place }),
     };
+    // Each chunk takes a byte or more behind its header, so a greater count is cut anyhow.
     let most = bytes.len() / (BYTES + 1);
     let mut chunks = Vec::with_capacity(alloc, most.min(header.count as usize))?;
-    let end = match read_chunks(&mut chunks, bytes, header.count) {
-        Ok(end) => end,
-        Err(error) => return Err(error),
-    };
+    let end = read_chunks(&mut chunks, bytes, header.count)?;
     if header.whole != end {
         return Err(ZoneError::BadZone {
             place: WHOLE as u64,

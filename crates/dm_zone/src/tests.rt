@@ -1,5 +1,10 @@
+ghost use Rattle.std.specs.Prelude.{◌≡◌, ◌<◌, ◌≤◌, ◌+◌, ◌^◌, length, MatchResult};
+ghost use Rattle.dm_rules.specs.Zone.{chunk_count, cut, unsealed, zone_header};
+ghost use Rattle.dm_zone.specs.Reading.{entries};
+
 use super::*;
-use dm_base::{Bfid, GroupId};
+use dm_base::{Bfid, GroupId, NoMemory};
+use std::alloc::Global;
 use std::test::*;
 
 // A zone of one chunk, `hello`, the whole of its bitfile.
@@ -112,14 +117,35 @@ fn cut_or_left_over(rt: HostRuntime) -> Result<(), Fail> {
     Ok(())
 }
 
+// What was written is read again: a caller of both knows it by their contracts.
+fn written_and_read(
+    alloc: Global,
+    epoch: u64,
+    bfid: Bfid,
+    total: u64,
+    offset: u64,
+    bytes: &[u8],
+    chunk: u64,
+) -> Result<Zone, ZoneError>
+    requires some { 0 < length bytes.now }
+    requires chunk { 0 < chunk }
+    requires within { offset + length bytes.now ≤ total }
+    requires count { chunk_count chunk (length bytes.now) < 2 ^ 32 }
+    ensures { MatchResult result (λ z. (z.epoch ≡ epoch) × (z.chunks ≡ entries zone_header (cut unsealed bfid.0 total offset bytes.now chunk))) (λ e. e ≡ ZoneError.NoMemory) }
+{
+    let zone = match encode_zone(alloc, epoch, bfid, total, offset, bytes, chunk) {
+        Ok(zone) => zone,
+        Err(NoMemory) => return Err(ZoneError::NoMemory),
+    };
+    decode_zone(alloc, zone.as_slice())
+}
+
 #[test]
 fn several_chunks(rt: HostRuntime) -> Result<(), Fail> {
     let bfid = Bfid::of(1, 2);
-    let bytes = encode_zone(rt.alloc(), 9, bfid, 100, 7, b"abcdefghijklm", 5)
+    let zone = written_and_read(rt.alloc(), 9, bfid, 100, 7, b"abcdefghijklm", 5)
         .ok()
         .ok_or("there is memory")?;
-    assert_eq!(rt; bytes.len(), 189);
-    let zone = decode_zone(rt.alloc(), &bytes).ok().ok_or("a zone")?;
     assert_eq!(rt; zone.epoch, 9);
     let chunk = |offset, at, len| ZoneChunk {
         bfid,
