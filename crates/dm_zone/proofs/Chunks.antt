@@ -1,16 +1,16 @@
 -- Chunks read one behind the other.
-use Rattle.std.proofs.Common.{◌≡◌, ◌≢◌, ◌⊎◌, inl, inr, ℕ, zero, suc, ◌+◌, ◌^◌, ◌<◌, ◌≤◌, List, [], ◌∷◌, ◌++◌, length, take, drop, refl, sym, ap, subst, ◌∙◌, arith, append_assoc, length-append, length-take, length-drop}
+use Rattle.std.proofs.Common.{◌≡◌, ◌≢◌, inl, inr, ℕ, ◌+◌, ◌<◌, List, [], ◌∷◌, ◌++◌, length, take, drop, refl, sym, ap, subst, ◌∙◌, arith, append_assoc, length-append}
 use Rattle.std.specs.Int.{w32, w64}
 use Rattle.std.specs.List.{flat_map, AllByRecursion}
-use Rattle.std.proofs.lemmas.List.{append-nil, nil_from_length, take_at, drop_at, drop-drop}
+use Rattle.std.proofs.lemmas.List.{append-nil, nil_from_length, take_at, drop_at}
 use Rattle.std.proofs.lemmas.Grind.{flat_map-append}
-use Rattle.dm_rules.specs.Zone.{Chunk, chunk_front, chunk_text, zone, zone_front, zone_header}
+use Rattle.dm_rules.specs.Zone.{Chunk, chunk_front, chunk_text, zone, zone_front}
 use Rattle.dm_zone.specs.declared.contents.ZoneChunk.{ZoneChunk}
-use Rattle.dm_zone.specs.Fields.{number_at, zone_fields, chunk_fields, AllRight, FirstWrong}
-use Rattle.dm_zone.specs.Grammar.{IsChunk, IsZone}
-use Rattle.dm_zone.specs.Reading.{Begins, IsHeader, LeftOver, Read, Spells, Stand, Stops, WrongAt, WrongBehind, WrongInChunk, WrongLength, entries, entry, entry_at}
+use Rattle.dm_zone.specs.Fields.{number_at, zone_fields, chunk_fields, AllRight}
+use Rattle.dm_zone.specs.Grammar.{IsChunk}
+use Rattle.dm_zone.specs.Reading.{Begins, IsHeader, Read, Spells, Stand, Stops, WrongAt, entries, entry, entry_at}
 use Rattle.dm_zone.proofs.Wide.{IsBytes, IsBytes-drop}
-use Rattle.dm_zone.proofs.Headers.{Parts, ZoneNumbers, chunk_at, chunk_parts, chunk_text_is, length-chunk_text, wrong_within, zone_header_is, zone_numbers}
+use Rattle.dm_zone.proofs.Headers.{chunk_at, chunk_parts, chunk_text_is, length-chunk_text, zone_header_is, zone_numbers}
 use Rattle.dm_zone.proofs.Cuts.{length-chunk_front, length-zone_front}
 
 each_push : (cs : List Chunk) (c : Chunk) → AllByRecursion IsChunk cs → IsChunk c → AllByRecursion IsChunk (cs ++ c ∷ [])

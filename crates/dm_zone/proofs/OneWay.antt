@@ -1,5 +1,5 @@
 -- Bytes are one zone at most, or their first wrong field stands at one place.
-use Rattle.std.proofs.Common.{◌≡◌, ◌⊎◌, inl, inr, ℕ, zero, suc, ◌+◌, ◌<◌, ◌≤◌, List, [], ◌∷◌, ◌++◌, length, drop, Result, Ok, Err, refl, sym, ap, subst, ◌∙◌, arith, append_assoc}
+use Rattle.std.proofs.Common.{◌≡◌, ◌⊎◌, inl, inr, ℕ, zero, suc, ◌+◌, ◌≤◌, List, [], ◌∷◌, ◌++◌, length, drop, Result, Ok, Err, refl, sym, ap, subst, ◌∙◌, arith, append_assoc}
 use Rattle.std.specs.Prelude.{IfOk, MatchResult}
 use Rattle.std.specs.List.{flat_map, AllByRecursion}
 use Rattle.std.proofs.lemmas.List.{append-nil, drop_at}
@@ -10,7 +10,7 @@ use Rattle.dm_zone.specs.declared.error.ZoneError.TheVariants.{BadZone, NoMemory
 use Rattle.dm_zone.specs.Fields.{zone_fields, chunk_fields, AllRight, FirstWrong}
 use Rattle.dm_zone.specs.Grammar.{IsChunk, IsZone}
 use Rattle.dm_zone.specs.Reading.{Begins, IsHeader, Spells, WrongAt, WrongBehind, WrongNext, entries}
-use Rattle.dm_zone.proofs.Headers.{Again, chunk_again, none_wrong, one_wrong, zone_right, zone_spelled}
+use Rattle.dm_zone.proofs.Headers.{chunk_again, none_wrong, one_wrong, zone_right, zone_spelled}
 use Rattle.dm_zone.proofs.Cuts.{length-zone_front}
 
 -- ---- the header

@@ -1,6 +1,6 @@
 -- The fields of both headers, each in its place, and what a wrong field is.
 use Rattle.std.specs.Prelude.{◌≡◌, ◌⊎◌, ℕ, ◌+◌, ◌<◌, ◌≤◌, ◌==◌, nat_lt, nat_le, not, Bool, true, IsTrue, List, [], ◌∷◌, length, take, drop, codes}
-use Rattle.std.specs.Int.{Width, w32, w64, w128, byte_len, from_be_bytes}
+use Rattle.std.specs.Int.{Width, w32, w64, byte_len, from_be_bytes}
 
 -- the number at a place
 unfoldable pub number_at : Width → ℕ → List ℕ → ℕ

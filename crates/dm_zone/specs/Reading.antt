@@ -1,5 +1,5 @@
 -- What is read of bytes: their one zone, or the place of their first wrong field.
-use Rattle.std.specs.Prelude.{◌≡◌, ◌≢◌, ◌⊎◌, ℕ, ◌+◌, ◌^◌, ◌<◌, ◌≤◌, List, [], ◌∷◌, ◌++◌, length, take, drop}
+use Rattle.std.specs.Prelude.{◌≡◌, ◌≢◌, ◌⊎◌, ℕ, ◌+◌, ◌^◌, ◌<◌, List, [], ◌∷◌, ◌++◌, length, take, drop}
 use Rattle.std.specs.Int.{w32, w64, w128}
 use Rattle.std.specs.List.{flat_map, AllByRecursion}
 use Rattle.dm_rules.specs.Zone.{Chunk, chunk_header, chunk_text, zone, zone_front, zone_header}
