@@ -1,5 +1,5 @@
-//! Reading a zone. Each field stands at its place of the tables in docs/FORMATS.md, and they are looked at in
-//! their order, so that an error names the first wrong one.
+//! Reading a zone. Each field stands at its place of the tables in docs/FORMATS.md, and they are
+//! looked at in their order, so that an error names the first wrong one.
 
 ghost use Rattle.std.specs.Prelude.{◌≡◌, ◌⊎◌, ◌<◌, ◌≤◌, ◌+◌, ◌^◌, [], drop, length, slice_index, List, ℕ, IfOk, MatchResult};
 ghost use Rattle.dm_rules.specs.Zone.{Chunk, zone, zone_header};
@@ -41,17 +41,21 @@ const TOTAL: usize = 40;
 
 const BYTES: usize = 48;
 
-/// The zone that the bytes spell, all of them. Memory is taken once, for as many chunks as the bytes can hold
-/// at most.
+/// The zone that the bytes spell, all of them. Memory is taken once, for as many chunks as the bytes
+/// can hold at most, whatever the header says.
 pub fn decode_zone(alloc: Global, bytes: &[u8]) -> Result<Zone, ZoneError>
     // What is read is spelled so.
-    ensures read { IfOk result (λ z. (chunks : List Chunk) × Spells bytes.now z.epoch z.chunks chunks) }
+    ensures read { IfOk result (λ z.
+        (chunks : List Chunk) × Spells bytes.now z.epoch z.chunks chunks) }
     // What is spelled so is read, unless memory is refused.
-    ensures all { (epoch : ℕ) (chunks : List Chunk) → IsZone epoch chunks → bytes.now ≡ zone epoch chunks →
-        MatchResult result (λ z. (z.epoch ≡ epoch) × (z.chunks ≡ entries zone_header chunks)) (λ e. e ≡ ZoneError.NoMemory) }
+    ensures all { (epoch : ℕ) (chunks : List Chunk) →
+        IsZone epoch chunks → bytes.now ≡ zone epoch chunks → MatchResult result
+        (λ z. (z.epoch ≡ epoch) × (z.chunks ≡ entries zone_header chunks))
+        (λ e. e ≡ ZoneError.NoMemory) }
     // The place in an error is that of the first wrong field, and where there is one, it is told unless
     // memory is refused.
-    ensures wrong { (place : ℕ) → result ≡ Err (ZoneError.BadZone place) → WrongAt bytes.now place }
+    ensures wrong { (place : ℕ) →
+        result ≡ Err (ZoneError.BadZone place) → WrongAt bytes.now place }
     ensures told { (place : ℕ) → WrongAt bytes.now place →
         MatchResult result (λ _. ⊥) (λ e. (e ≡ ZoneError.BadZone place) ⊎ (e ≡ ZoneError.NoMemory)) }
 {
@@ -59,8 +63,10 @@ pub fn decode_zone(alloc: Global, bytes: &[u8]) -> Result<Zone, ZoneError>
 }
 
 fn read_zone(alloc: Global, bytes: &[u8]) -> Result<Zone, ZoneError>
-    ensures read { IfOk result (λ z. (chunks : List Chunk) × Spells bytes.now z.epoch z.chunks chunks) }
-    ensures wrong { (place : ℕ) → result ≡ Err (ZoneError.BadZone place) → WrongAt bytes.now place }
+    ensures read { IfOk result (λ z.
+        (chunks : List Chunk) × Spells bytes.now z.epoch z.chunks chunks) }
+    ensures wrong { (place : ℕ) →
+        result ≡ Err (ZoneError.BadZone place) → WrongAt bytes.now place }
 {
     let header = match header_of(bytes) {
         Ok(header) => header,
@@ -94,7 +100,9 @@ struct Header {
 
 // The header of a zone, or the place of its first wrong field.
 fn header_of(bytes: &[u8]) -> Result<Header, u64>
-    ensures { MatchResult result (λ h. AllRight zone_fields bytes.now × IsHeader h.count h.epoch h.whole bytes.now) (FirstWrong zone_fields bytes.now) }
+    ensures { MatchResult result
+        (λ h. AllRight zone_fields bytes.now × IsHeader h.count h.epoch h.whole bytes.now)
+        (FirstWrong zone_fields bytes.now) }
 {
     let cut = bytes.len() as u64;
     if u32_at(bytes, 0).ok_or(cut)? != ZONE_MARK {
@@ -120,8 +128,10 @@ fn header_of(bytes: &[u8]) -> Result<Header, u64>
 fn read_chunks(chunks: &mut Vec<ZoneChunk>, bytes: &[u8], count: u32) -> Result<u64, ZoneError>
     requires header { 32 ≤ length bytes.now }
     requires empty { chunks.old.items ≡ [] }
-    ensures read { IfOk result (λ end. (rest : List ℕ) × (length rest + end ≡ length bytes.now) × Read (drop 32 bytes.now) count chunks.new.items end rest) }
-    ensures wrong { (place : ℕ) → result ≡ Err (ZoneError.BadZone place) → Stops (drop 32 bytes.now) count place }
+    ensures read { IfOk result (λ end. (rest : List ℕ) × (length rest + end ≡ length bytes.now)
+        × Read (drop 32 bytes.now) count chunks.new.items end rest) }
+    ensures wrong { (place : ℕ) →
+        result ≡ Err (ZoneError.BadZone place) → Stops (drop 32 bytes.now) count place }
 {
     let mut place = ZONE_HEADER;
     let (_, mut rest) = bytes.split_at(ZONE_HEADER as usize);
@@ -139,11 +149,13 @@ fn read_chunks(chunks: &mut Vec<ZoneChunk>, bytes: &[u8], count: u32) -> Result<
     Ok(place)
 }
 
-// The chunk that stands first in the bytes, whose place in the zone this is, or where in the bytes its first
-// wrong field stands.
+// The chunk that stands first in the bytes, whose place in the zone this is, or where in the bytes
+// its first wrong field stands.
 fn chunk_of(bytes: &[u8], place: u64) -> Result<ZoneChunk, u64>
     requires { place + length bytes.now < 2 ^ 64 }
-    ensures { MatchResult result (λ c. AllRight chunk_fields bytes.now × (c ≡ entry_at place bytes.now)) (FirstWrong chunk_fields bytes.now) }
+    ensures { MatchResult result
+        (λ c. AllRight chunk_fields bytes.now × (c ≡ entry_at place bytes.now))
+        (FirstWrong chunk_fields bytes.now) }
 {
     let cut = bytes.len() as u64;
     if u32_at(bytes, 0).ok_or(cut)? != CHUNK_MARK {
@@ -174,14 +186,18 @@ fn chunk_of(bytes: &[u8], place: u64) -> Result<ZoneChunk, u64>
     })
 }
 
-/// Bytes are one zone, or their first wrong field stands at one place, and never both. Nothing is done: the
-/// contract is the law, for every list of bytes.
+/// Bytes are one zone, or their first wrong field stands at one place, and never both. Nothing is
+/// done: the contract is the law, for every list of bytes.
 pub fn zones_are_read_one_way()
     ensures either { (bytes : List ℕ) → ((i : ℕ) → slice_index bytes i < 256) →
-        ((epoch : ℕ) × (chunks : List Chunk) × IsZone epoch chunks × (bytes ≡ zone epoch chunks)) ⊎ ((place : ℕ) × WrongAt bytes place) }
-    ensures one_zone { (bytes : List ℕ) (epoch other : ℕ) (chunks others : List Chunk) → IsZone epoch chunks → IsZone other others →
-        bytes ≡ zone epoch chunks → bytes ≡ zone other others → (epoch ≡ other) × (chunks ≡ others) }
-    ensures zone_or_wrong { (bytes : List ℕ) (epoch place : ℕ) (chunks : List Chunk) → IsZone epoch chunks → bytes ≡ zone epoch chunks →
-        WrongAt bytes place → ⊥ }
-    ensures one_place { (bytes : List ℕ) (place other : ℕ) → WrongAt bytes place → WrongAt bytes other → place ≡ other }
+        ((epoch : ℕ) × (chunks : List Chunk) × IsZone epoch chunks × (bytes ≡ zone epoch chunks))
+        ⊎ ((place : ℕ) × WrongAt bytes place) }
+    ensures one_zone { (bytes : List ℕ) (epoch other : ℕ) (chunks others : List Chunk) →
+        IsZone epoch chunks → IsZone other others →
+        bytes ≡ zone epoch chunks → bytes ≡ zone other others →
+        (epoch ≡ other) × (chunks ≡ others) }
+    ensures zone_or_wrong { (bytes : List ℕ) (epoch place : ℕ) (chunks : List Chunk) →
+        IsZone epoch chunks → bytes ≡ zone epoch chunks → WrongAt bytes place → ⊥ }
+    ensures one_place { (bytes : List ℕ) (place other : ℕ) →
+        WrongAt bytes place → WrongAt bytes other → place ≡ other }
 {}

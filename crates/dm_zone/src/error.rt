@@ -7,8 +7,8 @@ use std::alloc::{AllocError, AllocFailed};
 /// Why bytes were not read as a zone.
 #[derive(Clone, Copy, Debug, PartialEq, Eq)]
 pub enum ZoneError {
-    /// The bytes are no zone. The place is that of the first byte of the first field that is wrong; where the
-    /// bytes end inside a field, it is their length.
+    /// The bytes are no zone. The place is that of the first byte of the first field that is wrong;
+    /// where the bytes end inside a field, it is their length.
     BadZone { place: u64 },
     /// Memory for the list of chunks was refused.
     NoMemory,

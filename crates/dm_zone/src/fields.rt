@@ -6,7 +6,8 @@ ghost use Rattle.dm_zone.specs.Fields.{number_at};
 
 #[tactic(auto, unfolding(crate::specs::Fields::number_at))]
 pub(crate) fn u32_at(bytes: &[u8], place: usize) -> Option<u32>
-    ensures { MatchOption result (length bytes.now < place + 4) (λ n. (place + 4 ≤ length bytes.now) × (n ≡ number_at w32 place bytes.now)) }
+    ensures { MatchOption result (length bytes.now < place + 4)
+        (λ n. (place + 4 ≤ length bytes.now) × (n ≡ number_at w32 place bytes.now)) }
 {
     let (_, rest) = bytes.split_at_checked(place)?;
     let (field, _) = rest.split_first_chunk()?;
@@ -15,7 +16,8 @@ pub(crate) fn u32_at(bytes: &[u8], place: usize) -> Option<u32>
 
 #[tactic(auto, unfolding(crate::specs::Fields::number_at))]
 pub(crate) fn u64_at(bytes: &[u8], place: usize) -> Option<u64>
-    ensures { MatchOption result (length bytes.now < place + 8) (λ n. (place + 8 ≤ length bytes.now) × (n ≡ number_at w64 place bytes.now)) }
+    ensures { MatchOption result (length bytes.now < place + 8)
+        (λ n. (place + 8 ≤ length bytes.now) × (n ≡ number_at w64 place bytes.now)) }
 {
     let (_, rest) = bytes.split_at_checked(place)?;
     let (field, _) = rest.split_first_chunk()?;
@@ -24,7 +26,8 @@ pub(crate) fn u64_at(bytes: &[u8], place: usize) -> Option<u64>
 
 #[tactic(auto, unfolding(crate::specs::Fields::number_at))]
 pub(crate) fn u128_at(bytes: &[u8], place: usize) -> Option<u128>
-    ensures { MatchOption result (length bytes.now < place + 16) (λ n. (place + 16 ≤ length bytes.now) × (n ≡ number_at w128 place bytes.now)) }
+    ensures { MatchOption result (length bytes.now < place + 16)
+        (λ n. (place + 16 ≤ length bytes.now) × (n ≡ number_at w128 place bytes.now)) }
 {
     let (_, rest) = bytes.split_at_checked(place)?;
     let (field, _) = rest.split_first_chunk()?;
