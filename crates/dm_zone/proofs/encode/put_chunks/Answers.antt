@@ -1,7 +1,7 @@
 use Rattle.std.proofs.Common.{◌+◌, ◌-◌, ◌∙◌, ap, take, drop, arith}
 use Rattle.std.proofs.lemmas.List.{take_min, drop_min}
 use Rattle.dm_zone.proofs.Cuts.{cut_step, cut_none}
-use Rattle.dm_zone.proofs.zone.put_chunks.Goals as goal
+use Rattle.dm_zone.proofs.encode.put_chunks.Goals as goal
 
 pub loop-preserved : goal.loop-preserved
 loop-preserved c =

@@ -1,7 +1,7 @@
 use Rattle.std.proofs.Common.{◌≡◌, ◌-◌, ◌+◌, ◌++◌, length}
 use Rattle.std.specs.List.{flat_map}
 use Rattle.dm_rules.specs.Zone.{chunk_text, cut_into, unsealed}
-use Rattle.dm_zone.proofs.zone.put_chunks.Given as goal
+use Rattle.dm_zone.proofs.encode.put_chunks.Given as goal
 
 -- what is written and the chunks of what is left are the chunks of all
 abbrev pub invariant-loop : goal.invariant-loop

@@ -1,6 +1,6 @@
 use Rattle.std.proofs.Common.{append_assoc}
 use Rattle.dm_rules.specs.Zone.{chunk_front}
-use Rattle.dm_zone.proofs.zone.put_chunk_front.Goals as goal
+use Rattle.dm_zone.proofs.encode.put_chunk_front.Goals as goal
 
 pub returns : goal.returns
 unfolding chunk_front

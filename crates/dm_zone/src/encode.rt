@@ -3,6 +3,7 @@
 ghost use Rattle.std.specs.Prelude.{◌≡◌, ◌<◌, ◌≤◌, ◌+◌, ◌^◌, ◌++◌, drop, length, IfOk, OnOk};
 ghost use Rattle.std.specs.List.{flat_map};
 ghost use Rattle.dm_rules.specs.Zone.{chunk_count, chunk_front, chunk_header, chunk_text, cut, cut_into, unsealed, zone, zone_front, zone_length};
+ghost use Rattle.dm_zone.specs.Grammar.{IsZone};
 
 use crate::number::{eight_bytes, four_bytes, sixteen_bytes};
 use dm_base::{Bfid, NoMemory};
@@ -24,6 +25,8 @@ pub fn encode_zone(
     requires within { offset + length bytes.now ≤ total }
     requires count { chunk_count chunk (length bytes.now) < 2 ^ 32 }
     ensures spelled { IfOk result (λ v. v.items ≡ zone epoch (cut unsealed bfid.0 total offset bytes.now chunk)) }
+    // The chunks and the zone are of the grammar, so that `decode_zone` reads them again.
+    ensures grammar { OnOk result (IsZone epoch (cut unsealed bfid.0 total offset bytes.now chunk)) }
     ensures long { IfOk result (λ v. length v.items ≡ zone_length chunk_header chunk (length bytes.now)) }
     ensures one { length bytes.now ≤ chunk → IfOk result (λ v. (length v.items ≡ 80 + length bytes.now) × (drop 80 v.items ≡ bytes.now)) }
 {

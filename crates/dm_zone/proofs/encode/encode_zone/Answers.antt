@@ -1,8 +1,8 @@
-use Rattle.std.proofs.Common.{◌≡◌, ℕ, ◌+◌, ◌*◌, ◌++◌, ◌∙◌, ap, drop, length}
+use Rattle.std.proofs.Common.{◌≡◌, ℕ, arith, ◌+◌, ◌*◌, ◌++◌, ◌∙◌, ap, drop, length}
 use Rattle.std.specs.List.{flat_map}
 use Rattle.dm_rules.specs.Zone.{chunk_count, chunk_text, cut, cut_into, unsealed, zone_front, zone_length}
-use Rattle.dm_zone.proofs.Cuts.{behind_headers, length-zone, one_chunk, one_chunk_length, zone_is}
-use Rattle.dm_zone.proofs.zone.encode_zone.Goals as goal
+use Rattle.dm_zone.proofs.Cuts.{behind_headers, cut_zone, length-zone, one_chunk, one_chunk_length, zone_is}
+use Rattle.dm_zone.proofs.encode.encode_zone.Goals as goal
 
 -- what was written
 written : (c : goal.In_ok-put_chunks) → c.put_chunks.new.out.items ≡ zone_front c.args.epoch (chunk_count c.args.chunk (length c.args.bytes.now)) (zone_length 48 c.args.chunk (length c.args.bytes.now)) ++ flat_map chunk_text (cut unsealed c.args.bfid.0 c.args.total c.args.offset c.args.bytes.now c.args.chunk)
@@ -27,3 +27,6 @@ returns-clause-one c = λ fits. (
   ap (drop 80) (written c)
       ∙ behind_headers c.args.epoch _ _ c.args.bfid.0 c.args.total c.args.offset c.args.bytes.now c.args.chunk _ (one_chunk (length c.args.bytes.now) c.args.chunk c.requires.some fits) fits,
 )
+
+pub returns-clause-grammar : goal.returns-clause-grammar
+returns-clause-grammar c = cut_zone c.args.epoch c.args.bfid.0 c.args.total c.args.offset c.args.bytes.now c.args.chunk (omega arith) (omega arith) (omega arith) c.requires.chunk c.requires.some c.requires.within c.requires.count (omega (arith, c.in-Some.ensures.0, c.div_ceil-count.ensures))
