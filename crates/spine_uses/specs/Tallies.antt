@@ -12,10 +12,13 @@ use Rattle.spine_uses.specs.declared.tally.Place.{Place}
 use Rattle.spine_uses.specs.declared.tally.Tally.{Tally}
 
 -- the total is the replay of the counter's chain, and the count the number of the entries that are at home there
-pub record Sums (t : Tally) (xs : List (ℕ × Added)) : Type 0 where
-  pub total : t.total ≡ replay (chain counting (Counter t.number) xs)
-  pub count : t.count ≡ at_home counting (Counter t.number) xs
-  pub small : t.total ≤ 65535 * t.count
+pub record Totals (number total count : ℕ) (xs : List (ℕ × Added)) : Type 0 where
+  pub replayed : total ≡ replay (chain counting (Counter number) xs)
+  pub counted : count ≡ at_home counting (Counter number) xs
+  pub small : total ≤ 65535 * count
+
+abbrev pub Sums : Tally → List (ℕ × Added) → Type 0
+Sums t xs = Totals t.number t.total t.count xs
 
 -- the counter is what its own pass has seen of it, and the pass keeps its name
 pub record Stands (t : Tally) : Type 0 where
@@ -38,8 +41,8 @@ IsFull number xs = 281474976710656 ≤ at_home counting (Counter number) xs
 
 -- The counter's entries and the worker's have the entry at their ends, and nothing else is new among them. The total is
 -- the replay of the counter's
-pub record Adds (number : ℕ) (counters own : List (ℕ × Added)) (e : Added) (total : ℕ) (seen : List (ℕ × Added)) : Type 0 where
+pub record Adds (number : ℕ) (counters own : List (ℕ × Added)) (e : Added) (answer : ℕ) (seen : List (ℕ × Added)) : Type 0 where
   pub at : ℕ
   pub counter : chain counting (Counter number) seen ≡ chain counting (Counter number) counters ++ (at, e) ∷ []
   pub worker : chain counting (Worker e.worker) seen ≡ chain counting (Worker e.worker) own ++ (at, e) ∷ []
-  pub total : total ≡ replay (chain counting (Counter number) seen)
+  pub total : answer ≡ replay (chain counting (Counter number) seen)

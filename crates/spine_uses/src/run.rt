@@ -1,12 +1,13 @@
 //! Two workers in threads of their own.
-ghost use Rattle.std.specs.Prelude.{◌≡◌, ℕ, ◌+◌, ◌<◌, ◌≤◌, ◌⊎◌, [], IfOk, OnOk, OnErr, sum};
-ghost use Rattle.dm_spine.specs.Past.{In, Rises, Legal, chain};
-ghost use Rattle.dm_spine.specs.Passes.{IsOn, IsBeside, seen_by, kept_by, past_of};
+ghost use Rattle.std.specs.Prelude.{◌≡◌, ℕ, ◌+◌, ◌≤◌, ◌⊎◌, [], ◌∷◌, ◌++◌, IfOk, OnOk, OnErr, sum};
+ghost use Rattle.dm_spine.specs.Past.{In, Rises, chain};
+ghost use Rattle.dm_spine.specs.Rule.{view, without};
+ghost use Rattle.dm_spine.specs.Passes.{IsOn, IsBeside, view_of, seen_by, kept_by, past_of};
 ghost use Rattle.spine_uses.specs.Counting.{counting, replay};
 ghost use Rattle.spine_uses.specs.Tallies.{Stands, IsFull};
-ghost use Rattle.spine_uses.specs.Runs.{entries_by, entries_of};
+ghost use Rattle.spine_uses.specs.Runs.{IsLegal, entries_by, entries_of};
 
-use crate::counting::{Counting, Name};
+use crate::counting::{Added, Counting, Name};
 use crate::lock::Lock;
 use crate::session::Session;
 use crate::tally::{Full, Place, Tally};
@@ -36,7 +37,16 @@ impl From<Full> for Refused {
 }
 
 // A pass that keeps the worker's name, cut from one that keeps it.
-fn worker_pass(pass: &mut Pass<Counting>, alloc: Global, worker: u32) -> Result<Pass<Counting>, NoMemory> {
+fn worker_pass(
+    pass: &mut Pass<Counting>,
+    alloc: Global,
+    worker: u32,
+) -> Result<Pass<Counting>, NoMemory>
+    requires { In (Name.Worker worker) (kept_by pass.old) }
+    ensures beside { IsBeside pass.old pass.new }
+    ensures left { OnOk result (view_of pass.new ≡ view (seen_by pass.old) (without counting (Name.Worker worker ∷ []) (kept_by pass.old))) }
+    ensures right { IfOk result (λ other. IsBeside pass.old other × (view_of other ≡ view (seen_by pass.old) (Name.Worker worker ∷ []))) }
+{
     let mut names = Vec::with_capacity(alloc, 1)?;
     names.push_reserved(Name::Worker(worker));
     pass.split(alloc, names)
@@ -49,14 +59,31 @@ fn work<R: Wait>(
     pass: Pass<Counting>,
     worker: u32,
     amounts: &[u16],
-) -> (Pass<Counting>, Result<(), Full>) {
+) -> (Pass<Counting>, Result<(), Full>)
+    requires beside { IsOn lock.now.table.shared.key.spine pass }
+    requires keeps { In (Name.Worker worker) (kept_by pass) }
+    requires known { (1 ≤ worker) × (worker ≤ 2) }
+    ensures beside { IsOn lock.now.table.shared.key.spine result.0 }
+    ensures keeps { In (Name.Worker worker) (kept_by result.0) }
+    ensures done { OnOk result.1 (entries_by worker (seen_by result.0) ≡ entries_by worker (seen_by pass) ++ entries_of worker lock.now.table.shared.key.number amounts.now) }
+    ensures full { OnErr result.1 (IsFull lock.now.table.shared.key.number (seen_by result.0)) }
+{
     let mut session = Session::begin(rt, lock, pass, worker);
     let done = session.add_all(amounts);
     (session.end(), done)
 }
 
 // The end of a run: the workers' passes and the counter's are joined.
-fn finish_all(tally: Tally, one: Pass<Counting>, two: Pass<Counting>) -> (Past<Counting>, u64) {
+fn finish_all(tally: Tally, one: Pass<Counting>, two: Pass<Counting>) -> (Past<Counting>, u64)
+    requires stands { Stands tally }
+    requires beside { IsBeside tally.pass one × IsBeside tally.pass two }
+    requires keeps { In (Name.Worker 1) (kept_by one) × In (Name.Worker 2) (kept_by two) }
+    ensures rises { Rises 0 (past_of result.0) }
+    ensures legal { IsLegal (past_of result.0) }
+    ensures total { result.1 ≡ replay (chain counting (Name.Counter tally.number) (past_of result.0)) }
+    ensures one { chain counting (Name.Worker 1) (past_of result.0) ≡ chain counting (Name.Worker 1) (seen_by one) }
+    ensures two { chain counting (Name.Worker 2) (past_of result.0) ≡ chain counting (Name.Worker 2) (seen_by two) }
+{
     let Tally {
         total, mut pass, ..
     } = tally;
@@ -71,7 +98,15 @@ pub fn run_both<R: Threads + Wait + Sync>(
     alloc: Global,
     first: &[u16],
     second: &[u16],
-) -> Result<(Past<Counting>, u64), Refused> {
+) -> Result<(Past<Counting>, u64), Refused>
+    ensures rises { IfOk result (λ r. Rises 0 (past_of r.0)) }
+    ensures legal { IfOk result (λ r. IsLegal (past_of r.0)) }
+    ensures first { IfOk result (λ r. entries_by 1 (past_of r.0) ≡ entries_of 1 0 first.now) }
+    ensures second { IfOk result (λ r. entries_by 2 (past_of r.0) ≡ entries_of 2 0 second.now) }
+    ensures only { IfOk result (λ r. (a : ℕ × Added) → In a (past_of r.0) → In a (chain counting (Name.Worker 1) (past_of r.0)) ⊎ In a (chain counting (Name.Worker 2) (past_of r.0))) }
+    ensures total { IfOk result (λ r. r.1 ≡ replay (chain counting (Name.Counter 0) (past_of r.0))) }
+    ensures sum { IfOk result (λ r. r.1 ≡ sum first.now + sum second.now) }
+{
     let (spine, mut pass) = Spine::begin(alloc, Counting)?;
     let one = worker_pass(&mut pass, alloc, 1)?;
     let two = worker_pass(&mut pass, alloc, 2)?;
