@@ -1,5 +1,5 @@
 -- How many entries a history has: as few as its homes allow.
-use Rattle.std.proofs.Common.{◌≡◌, ℕ, ◌+◌, ◌*◌, ◌<◌, ◌≤◌, ◌⊎◌, Bool, true, false, not, cond, List, [], ◌∷◌, ◌++◌, length, filter, refl, sym, ap, ◌∙◌, subst, inl, inr, ⊎_elim, le_trans, mul-le-mul_right, suc-mul, length-append, arith}
+use Rattle.std.proofs.Common.{◌≡◌, ℕ, ◌+◌, ◌*◌, ◌≤◌, Bool, true, false, not, cond, List, [], ◌∷◌, ◌++◌, length, filter, refl, sym, ap, ◌∙◌, subst, inl, inr, le_trans, mul-le-mul_right, suc-mul, length-append, arith}
 use Rattle.std.proofs.lemmas.Bool.{not-true, true≢false}
 use Rattle.std.proofs.lemmas.List.Elements.{filter-append}
 use Rattle.std.proofs.lemmas.List.Filters.{length-filter_both}
@@ -13,6 +13,10 @@ module _ {A : Type 0} where
   fewer true false x xs ys h f = absurd (true≢false (sym (f refl)))
   fewer false true x xs ys h f = omega arith
   fewer false false x xs ys h f = h
+
+  pub length-filter_le : (p : A → Bool) (xs : List A) → length (filter p xs) ≤ length xs
+  length-filter_le p [] = omega arith
+  length-filter_le p (x ∷ xs) = fewer (p x) true x xs (filter p xs) (length-filter_le p xs) (λ e. refl)
 
   dropped : (p q : A → Bool) (x : A) (xs : List A) (b : Bool) → length (filter p (filter q xs)) ≤ length (filter p xs) → length (filter p (cond b (x ∷ filter q xs) (filter q xs))) ≤ length (cond (p x) (x ∷ filter p xs) (filter p xs))
   dropped p q x xs true h = fewer (p x) (p x) x (filter p xs) (filter p (filter q xs)) h (λ e. e)
@@ -33,21 +37,21 @@ module _ {S N E : Type 0} (m : Meaning S N E) (ok : Lawful m) where
   counted c [] [] f g = omega arith
   counted c [] (x ∷ xs) f g = absurd (f x (inl refl))
   counted c (h ∷ hs) xs f g =
-    let p : ℕ × E → Bool = λ a. m.same (m.home a.1) h in
-    let q : ℕ × E → Bool = λ a. not (m.same (m.home a.1) h) in
-    let split : length (filter p xs) + length (filter q xs) ≡ length xs = length-filter_both p q (λ a. refl) xs in
-    let here : length (filter p xs) ≤ c = g h in
-    let rest : length (filter q xs) ≤ length hs * c = counted c hs (filter q xs)
+      let p : ℕ × E → Bool = λ a. m.same (m.home a.1) h in
+      let q : ℕ × E → Bool = λ a. not (m.same (m.home a.1) h) in
+      let split : length (filter p xs) + length (filter q xs) ≡ length xs = length-filter_both p q (λ a. refl) xs in
+      let here : length (filter p xs) ≤ c = g h in
+      let rest : length (filter q xs) ≤ length hs * c = counted c hs (filter q xs)
       (λ a t. let k = in_filter q a xs t in elsewhere h (m.home a.1) hs (f a k.0) (not-true (m.same (m.home a.1) h) k.1))
       (λ n. le_trans (length-filter_filter (λ a. m.same (m.home a.1) n) q xs) (g n)) in
-    omega (arith, suc-mul (length hs) c)
+      omega (arith, suc-mul (length hs) c)
 
   -- so the word of a spine stays at most 2 to the 63rd
   pub short : (p : S) (log : List (ℕ × E)) → IsLog m p log → length log ≤ 9223372036854775808
   short p log h =
-    let most : length log ≤ length (m.fixed p) * 281474976710656 = counted 281474976710656 (m.fixed p) log h.housed h.few in
-    let few : length (m.fixed p) * 281474976710656 ≤ 32768 * 281474976710656 = mul-le-mul_right 281474976710656 (ok.fixed_few p) in
-    le_trans most few
+      let most : length log ≤ length (m.fixed p) * 281474976710656 = counted 281474976710656 (m.fixed p) log h.housed h.few in
+      let few : length (m.fixed p) * 281474976710656 ≤ 32768 * 281474976710656 = mul-le-mul_right 281474976710656 (ok.fixed_few p) in
+      le_trans most few
 
   one_home : (h : N) (z : ℕ × E) (b : Bool) → length (cond b (z ∷ []) []) ≤ 1
   one_home h z true = omega arith

@@ -5,3 +5,4 @@ pub mod Counts
 pub mod Seats
 pub mod Draws
 pub mod Shares
+pub mod Uses

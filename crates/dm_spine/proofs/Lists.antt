@@ -1,6 +1,7 @@
 -- Members of lists, lists whose numbers rise, and their unions.
-use Rattle.std.proofs.Common.{◌≡◌, ℕ, ◌+◌, ◌<◌, ◌≤◌, ◌⊎◌, Bool, true, false, cond, List, [], ◌∷◌, ◌++◌, length, filter, nat_lt, refl, sym, ap, ◌∙◌, subst, inl, inr, ⊎_elim, arith}
-use Rattle.std.proofs.lemmas.Bool.{ltb-true, ltb-false, lt-ltb, le-ltb}
+use Rattle.std.proofs.Common.{◌≡◌, ℕ, ◌+◌, ◌<◌, ◌≤◌, ◌⊎◌, Bool, true, false, cond, List, [], ◌∷◌, ◌++◌, filter, nat_lt, refl, sym, ap, ◌∙◌, subst, inl, inr, ⊎_elim, append-nil, arith}
+use Rattle.std.proofs.lemmas.Bool.{ltb-true, ltb-false, lt-ltb, le-ltb, true≢false}
+use Rattle.std.proofs.lemmas.List.Elements.{filter-append}
 use Rattle.dm_spine.specs.Past.{In, Rises, below, IsAbove, insert, union}
 
 module _ {A : Type 0} where
@@ -78,17 +79,17 @@ module _ {E : Type 0} where
   same_members low k [] (y ∷ ys) r s f g = absurd (g y (inl refl))
   same_members low k (x ∷ xs) [] r s f g = absurd (f x (inl refl))
   same_members low k (x ∷ xs) (y ∷ ys) r s f g =
-    let e : x ≡ y = heads x y xs ys r.1 s.1 (f x (inl refl)) (g y (inl refl)) in
-    let t : xs ≡ ys = same_members (x.0 + 1) (y.0 + 1) xs ys r.1 s.1
+      let e : x ≡ y = heads x y xs ys r.1 s.1 (f x (inl refl)) (g y (inl refl)) in
+      let t : xs ≡ ys = same_members (x.0 + 1) (y.0 + 1) xs ys r.1 s.1
       (λ c h. later x y c xs ys r.1 e h (f c (inr h)))
       (λ c h. later y x c ys xs s.1 (sym e) h (g c (inr h))) in
-    λ i. e i ∷ t i
+      λ i. e i ∷ t i
 
   -- the same, of what a test passes
   pub same_filter : (p : ℕ × E → Bool) (xs ys : List (ℕ × E)) → Rises 0 xs → Rises 0 ys → ((a : ℕ × E) → In a xs → p a ≡ true → In a ys) → ((a : ℕ × E) → In a ys → p a ≡ true → In a xs) → filter p xs ≡ filter p ys
   same_filter p xs ys r s f g = same_members 0 0 (filter p xs) (filter p ys) (rises_filter p 0 xs r) (rises_filter p 0 ys s)
-    (λ a h. let t = in_filter p a xs h in filter_in p a ys (f a t.0 t.1) t.1)
-    (λ a h. let t = in_filter p a ys h in filter_in p a xs (g a t.0 t.1) t.1)
+      (λ a h. let t = in_filter p a xs h in filter_in p a ys (f a t.0 t.1) t.1)
+      (λ a h. let t = in_filter p a ys h in filter_in p a xs (g a t.0 t.1) t.1)
 
   pub in_below : (n : ℕ) (a : ℕ × E) (xs : List (ℕ × E)) → In a xs → a.0 < n → In a (below n xs)
   in_below n a xs h l = filter_in (λ (t : ℕ × E). nat_lt t.0 n) a xs h (lt-ltb a.0 n l)
@@ -160,6 +161,87 @@ module _ {E : Type 0} where
   pub union_left : (low : ℕ) (c : ℕ × E) (xs ys : List (ℕ × E)) → Rises low xs → OneAt xs ys → In c xs → In c (union xs ys)
   union_left low c [] ys r f h = absurd h
   union_left low c (a ∷ xs) ys r f (inl q) =
-    let P : ℕ × E → Type 0 = λ t. In t (insert a (union xs ys)) in
-    subst P (sym q) (insert_new a (union xs ys) (λ b h e. apart a b xs ys r.1 (λ d t. f a d (inl refl) t) e (in_union b xs ys h)))
+      let P : ℕ × E → Type 0 = λ t. In t (insert a (union xs ys)) in
+      subst P (sym q) (insert_new a (union xs ys) (λ b h e. apart a b xs ys r.1 (λ d t. f a d (inl refl) t) e (in_union b xs ys h)))
   union_left low c (a ∷ xs) ys r f (inr h) = insert_old a c (union xs ys) (union_left (a.0 + 1) c xs ys r.1 (λ s t k. f s t (inr k)) h)
+
+module _ {A : Type 0} where
+  passed : (b : Bool) (x : A) (xs ys : List A) → b ≡ true → ys ≡ xs → cond b (x ∷ ys) ys ≡ x ∷ xs
+  passed true x xs ys e q = ap (λ t. x ∷ t) q
+  passed false x xs ys e q = absurd (true≢false (sym e))
+
+  pub filter_all : (p : A → Bool) (xs : List A) → ((a : A) → In a xs → p a ≡ true) → filter p xs ≡ xs
+  filter_all p [] h = refl
+  filter_all p (x ∷ xs) h = passed (p x) x xs (filter p xs) (h x (inl refl)) (filter_all p xs (λ a t. h a (inr t)))
+
+  failed : (b : Bool) (z : A) → b ≡ false → cond b (z ∷ []) [] ≡ []
+  failed true z e = absurd (true≢false e)
+  failed false z e = refl
+
+  pub filter-last_out : (p : A → Bool) (xs : List A) (z : A) → p z ≡ false → filter p (xs ++ z ∷ []) ≡ filter p xs
+  filter-last_out p xs z e = filter-append p xs (z ∷ []) ∙ ap (λ t. filter p xs ++ t) (failed (p z) z e) ∙ append-nil (filter p xs)
+
+  pub filter-last_in : (p : A → Bool) (xs : List A) (z : A) → p z ≡ true → filter p (xs ++ z ∷ []) ≡ filter p xs ++ z ∷ []
+  filter-last_in p xs z e = filter-append p xs (z ∷ []) ∙ ap (λ t. filter p xs ++ t) (passed (p z) z [] [] e refl)
+
+module _ {E : Type 0} where
+  -- what stands below a number that is above all
+  pub below_all : (n : ℕ) (xs : List (ℕ × E)) → IsAbove n xs → below n xs ≡ xs
+  below_all n xs h = filter_all (λ t. nat_lt t.0 n) xs (λ a t. lt-ltb a.0 n (h a t))
+
+  -- a last entry changes nothing below itself
+  pub below-last : (k : ℕ) (xs : List (ℕ × E)) (z : ℕ × E) → k ≤ z.0 → below k (xs ++ z ∷ []) ≡ below k xs
+  below-last k xs z l = filter-last_out (λ t. nat_lt t.0 k) xs z (le-ltb z.0 k l)
+
+  none_pass : (p : ℕ × E → Bool) (xs : List (ℕ × E)) → ((a : ℕ × E) → In a xs → p a ≡ false) → filter p xs ≡ []
+  none_pass p [] h = refl
+  none_pass p (x ∷ xs) h = left_out (p x) x (filter p xs) (h x (inl refl)) (none_pass p xs (λ a t. h a (inr t))) where
+    left_out : (b : Bool) (x : ℕ × E) (ys : List (ℕ × E)) → b ≡ false → ys ≡ [] → cond b (x ∷ ys) ys ≡ []
+    left_out true x ys e q = absurd (true≢false e)
+    left_out false x ys e q = q
+
+  pub rises_front : (low : ℕ) (xs ys : List (ℕ × E)) → Rises low (xs ++ ys) → Rises low xs
+  rises_front low [] ys r = tt
+  rises_front low (x ∷ xs) ys r = (r.0, rises_front (x.0 + 1) xs ys r.1)
+
+  pub rises_before : (low : ℕ) (xs ys : List (ℕ × E)) (z : ℕ × E) → Rises low (xs ++ z ∷ ys) → (a : ℕ × E) → In a xs → a.0 < z.0
+  rises_before low [] ys z r a h = absurd h
+  rises_before low (x ∷ xs) ys z r a (inl e) =
+      let k : x.0 + 1 ≤ z.0 = rises_low (x.0 + 1) (xs ++ z ∷ ys) r.1 z (in_right z xs (z ∷ ys) (inl refl)) in
+      let l : a.0 ≡ x.0 = ap (λ (t : ℕ × E). t.0) e in omega arith
+  rises_before low (x ∷ xs) ys z r a (inr h) = rises_before (x.0 + 1) xs ys z r.1 a h
+
+  pub rises_after : (low : ℕ) (xs ys : List (ℕ × E)) (z : ℕ × E) → Rises low (xs ++ z ∷ ys) → (a : ℕ × E) → In a (z ∷ ys) → z.0 ≤ a.0
+  rises_after low [] ys z r a (inl e) = let l : a.0 ≡ z.0 = ap (λ (t : ℕ × E). t.0) e in omega arith
+  rises_after low [] ys z r a (inr h) = let l : z.0 + 1 ≤ a.0 = rises_low (z.0 + 1) ys r.1 a h in omega arith
+  rises_after low (x ∷ xs) ys z r a h = rises_after (x.0 + 1) xs ys z r.1 a h
+
+  -- in a rising list, what stands below an entry's number is what stands before it
+  pub below_front : (xs ys : List (ℕ × E)) (z : ℕ × E) → Rises 0 (xs ++ z ∷ ys) → below z.0 (xs ++ z ∷ ys) ≡ xs
+  below_front xs ys z r =
+      let p : ℕ × E → Bool = λ t. nat_lt t.0 z.0 in
+      let front = below_all z.0 xs (λ a t. rises_before 0 xs ys z r a t) in
+      let back : filter p (z ∷ ys) ≡ [] = none_pass p (z ∷ ys) (λ a t. le-ltb a.0 z.0 (rises_after 0 xs ys z r a t)) in
+      filter-append p xs (z ∷ ys) ∙ ap (λ t. below z.0 xs ++ t) back ∙ append-nil (below z.0 xs) ∙ front
+
+  beginning : (x l : ℕ × E) (xs ls : List (ℕ × E)) → Rises (x.0 + 1) xs → Rises (l.0 + 1) ls → In x (l ∷ ls) → (l.0 < x.0 → In l (x ∷ xs)) → x ≡ l
+  beginning x l xs ls r s (inl e) f = e
+  beginning x l xs ls r s (inr h) f =
+      let k : l.0 + 1 ≤ x.0 = rises_low (l.0 + 1) ls s x h in
+      let lt : l.0 < x.0 = omega arith in
+      ⊎_elim (λ e. sym e) (λ t. let g : x.0 + 1 ≤ l.0 = rises_low (x.0 + 1) xs r l t in absurd (omega arith)) (f lt)
+
+  -- of two rising lists, one that has with an entry each earlier one of the other begins the other
+  pub begins : (low k : ℕ) (xs ls : List (ℕ × E)) → Rises low xs → Rises k ls → ((a : ℕ × E) → In a xs → In a ls) → ((a b : ℕ × E) → In a xs → In b ls → b.0 < a.0 → In b xs) → (rest : List (ℕ × E)) × (ls ≡ xs ++ rest)
+  begins low k [] ls r s f g = (ls, refl)
+  begins low k (x ∷ xs) [] r s f g = absurd (f x (inl refl))
+  begins low k (x ∷ xs) (l ∷ ls) r s f g =
+      let e : x ≡ l = beginning x l xs ls r.1 s.1 (f x (inl refl)) (g x l (inl refl) (inl refl)) in
+      let n : x.0 ≡ l.0 = ap (λ (t : ℕ × E). t.0) e in
+      let t = begins (x.0 + 1) (l.0 + 1) xs ls r.1 s.1
+      (λ a h. later x l a xs ls r.1 e h (f a (inr h)))
+      (λ a b h o lt. ⊎_elim
+      (λ q. let u : l.0 + 1 ≤ b.0 = rises_low (l.0 + 1) ls s.1 b o in let v : b.0 ≡ x.0 = ap (λ (t : ℕ × E). t.0) q in absurd (omega arith))
+      (λ q. q)
+      (g a b (inr h) (inr o) lt)) in
+      (t.0, λ i. sym e i ∷ t.1 i)

@@ -1,7 +1,7 @@
 -- Parts of a history: with an entry they have each earlier one about the same name.
-use Rattle.std.proofs.Common.{◌≡◌, ℕ, ◌+◌, ◌<◌, ◌≤◌, ◌⊎◌, Bool, true, false, cond, List, [], ◌∷◌, ◌++◌, length, filter, nat_lt, slice_get, Some, refl, sym, ap, ◌∙◌, subst, inl, inr, ⊎_elim, arith}
-use Rattle.dm_spine.specs.Past.{Meaning, Lawful, In, Rises, below, IsAbove, insert, union, has, chain, at_home, Made, IsPart, Fits, Legal, Agree}
-use Rattle.dm_spine.proofs.Lists.{in_left, in_right, in_append, in_filter, filter_in, rises_low, rises_from, rises_filter, rises_last, same_filter, same_members, in_below, below_in, rises_union, in_union, union_left, union_right, OneAt}
+use Rattle.std.proofs.Common.{◌≡◌, ℕ, ◌+◌, ◌<◌, ◌≤◌, ◌⊎◌, true, List, [], ◌∷◌, length, sym, ap, ◌∙◌, subst, inl, inr, ⊎_elim, arith}
+use Rattle.dm_spine.specs.Past.{Meaning, Lawful, In, Rises, union, chain, at_home, IsPart}
+use Rattle.dm_spine.proofs.Lists.{rises_low, same_filter, rises_union, in_union, union_left, union_right, OneAt}
 
 module _ {E : Type 0} where
   both_at : (low : ℕ) (xs : List (ℕ × E)) → Rises low xs → OneAt xs xs
@@ -47,7 +47,7 @@ module _ {S N E : Type 0} (m : Meaning S N E) where
   pub same_chain : (x : N) (xs ys : List (ℕ × E)) → Rises 0 xs → Rises 0 ys → ((a : ℕ × E) → In a xs → In a ys) → ((b : ℕ × E) → In b ys → m.about b.1 x ≡ true → In b xs) → chain m x ys ≡ chain m x xs
   same_chain x xs ys r s f g = same_filter (λ a. m.about a.1 x) ys xs s r g (λ a h t. f a h)
 
-  at_home_about : (ok : Lawful m) (h : N) (a : ℕ × E) → m.same (m.home a.1) h ≡ true → m.about a.1 h ≡ true
+  pub at_home_about : (ok : Lawful m) (h : N) (a : ℕ × E) → m.same (m.home a.1) h ≡ true → m.about a.1 h ≡ true
   at_home_about ok h a e = let P : N → Type 0 = λ n. m.about a.1 n ≡ true in subst P (ok.same_is (m.home a.1) h e) (ok.home_about a.1)
 
   -- likewise how many entries are at home there

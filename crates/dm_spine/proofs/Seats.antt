@@ -1,13 +1,12 @@
 -- Views of seats: what becomes of them where a seat's views change, and what each kind of view keeps.
-use Rattle.std.proofs.Common.{◌≡◌, ◌≢◌, ℕ, zero, suc, ◌+◌, ◌<◌, ◌≤◌, ◌⊎◌, Bool, true, false, not, ◌||◌, List, [], ◌∷◌, ◌++◌, length, filter, set, refl, sym, ap, ◌∙◌, subst, inl, inr, ⊎_elim, arith}
+use Rattle.std.proofs.Common.{◌≡◌, ℕ, zero, suc, ◌⊎◌, true, false, not, List, [], ◌∷◌, ◌++◌, length, refl, sym, ap, ◌∙◌, subst, inl, inr, ⊎_elim, arith}
 use Rattle.std.proofs.lemmas.Bool.{true≢false, or_cases, or_left, or_right, not-true, not_from_false}
 use mathlib.Core.Option.{some, some-injective, some-ne-none}
 use lib.ListN.{get_elem?}
-use Rattle.atomic_table.proofs.Lists.{at_set, set_else}
-use Rattle.dm_spine.specs.Past.{Meaning, Lawful, In, has, Made, IsPart}
-use Rattle.dm_spine.specs.Rule.{view, sight, without, IsView}
+use Rattle.dm_spine.specs.Past.{Meaning, Lawful, In, has}
+use Rattle.dm_spine.specs.Rule.{view, sight, without, IsView, IsSound}
 use Rattle.dm_spine.specs.declared.rule.View.{View}
-use Rattle.dm_spine.proofs.Lists.{in_left, in_right, in_append, in_filter, filter_in}
+use Rattle.dm_spine.proofs.Lists.{in_filter, filter_in}
 
 module _ {A : Type 0} where
   -- a list of one
@@ -21,13 +20,16 @@ module _ {A : Type 0} where
   at_end (x ∷ xs) a b zero e = inl e
   at_end (x ∷ xs) a b (suc j) e = ⊎_elim (λ t. inl t) (λ t. inr (ap suc t.0, t.1)) (at_end xs a b j e)
 
+  pub not_two : (a b c : A) → a ∷ [] ≡ b ∷ (c ∷ []) → ⊥
+  not_two a b c e = let l : length (a ∷ []) ≡ length (b ∷ (c ∷ [])) = ap length e in omega arith
+
 module _ {E N : Type 0} where
   pub single_view : (vs : List (View E N)) → length vs ≡ 1 → vs ≡ sight vs ∷ []
   single_view [] e = absurd (omega arith)
   single_view (v ∷ []) e = refl
   single_view (v ∷ (u ∷ us)) e = absurd (omega arith)
 
-module _ {S N E : Type 0} (m : Meaning S N E) (ok : Lawful m) where
+module _ {S N E : Type 0} {m : Meaning S N E} (ok : Lawful m) where
   has_first : (x y : N) (ys : List N) → m.same x y ≡ true → has m x (y ∷ ys) ≡ true
   has_first x y ys e = or_left (m.same x y) (has m x ys) e
 
@@ -55,4 +57,12 @@ module _ {S N E : Type 0} (m : Meaning S N E) (ok : Lawful m) where
     whole = λ x k b t e. h.whole x (f x k) b t e;
     lives = λ x k b t e. h.lives x (f x k) b t e;
     rooted = λ x k. h.rooted x (f x k);
+  }
+
+module _ {S N E : Type 0} (m : Meaning S N E) where
+  pub sound_view : (p : S) (log : List (ℕ × E)) (v : View E N) → IsView m p log v → IsSound m p v
+  sound_view p log v h = record {
+    rises = h.part.rises;
+    lives = λ x k b t ends. h.lives x k b (h.part.within b t) ends;
+    rooted = h.rooted;
   }

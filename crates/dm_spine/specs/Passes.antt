@@ -12,6 +12,9 @@ module _ {S N E : Type 0} where
   abbrev pub parts_of : Pass S N E → S
   parts_of pass = (arc_value pass.table).shared.key
 
+  abbrev pub spine_parts : Spine S N E → S
+  spine_parts spine = (arc_value spine.table).shared.key
+
   -- what the pass knows
   abbrev pub view_of : Pass S N E → View E N
   view_of pass = sight pass.seat.me.0

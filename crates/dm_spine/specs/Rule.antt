@@ -35,7 +35,8 @@ module _ {S N E : Type 0} (m : Meaning S N E) where
     -- it knows the whole chain of each name that it keeps, and none of these has ended
     pub whole : (x : N) → In x v.keeps → (b : ℕ × E) → In b log → m.about b.1 x ≡ true → In b v.seen
     pub lives : (x : N) → In x v.keeps → (b : ℕ × E) → In b log → m.ends b.1 x ≡ true → ⊥
-    pub rooted : (x : N) → In x v.keeps → In x (m.fixed p) ⊎ Made m x log
+    -- each is fixed, or an entry that it has seen made it
+    pub rooted : (x : N) → In x v.keeps → In x (m.fixed p) ⊎ Made m x v.seen
 
   -- the whole history
   pub record IsLog (p : S) (log : List (ℕ × E)) : Type 0 where
@@ -52,9 +53,17 @@ module _ {S N E : Type 0} (m : Meaning S N E) where
     pub known : (i : ℕ) (vs : List (View E N)) (v : View E N) → get_elem? seats i ≡ some vs → In v vs → IsView p log v
     -- a name has one seat at most that keeps it
     pub one : (i j : ℕ) (vs ws : List (View E N)) (v w : View E N) (x : N) → get_elem? seats i ≡ some vs → get_elem? seats j ≡ some ws → In v vs → In w ws → In x v.keeps → In x w.keeps → i ≡ j
+    -- also while a join is under way
+    pub pair : (i : ℕ) (v w : View E N) (x : N) → get_elem? seats i ≡ some (v ∷ (w ∷ [])) → In x v.keeps → In x w.keeps → ⊥
 
   abbrev pub Kept : S → State (Unit {0}) (List (View E N)) → Type 0
   Kept p s = (log : List (ℕ × E)) × KeptBy p log s.words s.views
+
+  -- what every pass knows of its own past and names
+  pub record IsSound (p : S) (v : View E N) : Type 0 where
+    pub rises : Rises 0 v.seen
+    pub lives : (x : N) → In x v.keeps → (b : ℕ × E) → In b v.seen → m.ends b.1 x ≡ true → ⊥
+    pub rooted : (x : N) → In x v.keeps → In x (m.fixed p) ⊎ Made m x v.seen
 
   -- the pass may draw the entry
   pub record MayDraw (p : S) (e : E) (v : View E N) : Type 0 where
@@ -68,7 +77,10 @@ module _ {S N E : Type 0} (m : Meaning S N E) where
     pub after : w ≡ drawn n e v
     pub above : IsAbove n v.seen
     pub few : n < 9223372036854775808
+    -- a pass that keeps every fixed name knows the whole history, and so which number is next
+    pub next : ((x : N) → In x (m.fixed p) → In x v.keeps) → n ≡ length v.seen
     pub legal : Legal m p w.seen
+    pub sound : IsSound p w
 
   -- what two passes of one spine had seen fits together, and each knew the whole chain of each name that it kept
   pub record Together (p : S) (v w : View E N) : Type 0 where
@@ -78,7 +90,16 @@ module _ {S N E : Type 0} (m : Meaning S N E) where
     pub right_part : IsPart m w.seen (union v.seen w.seen)
     pub mine : (x : N) → In x v.keeps → chain m x (union v.seen w.seen) ≡ chain m x v.seen
     pub theirs : (x : N) → In x w.keeps → chain m x (union v.seen w.seen) ≡ chain m x w.seen
+    -- no name was kept by both
+    pub apart : (x : N) → In x v.keeps → In x w.keeps → ⊥
     pub legal : Legal m p (union v.seen w.seen)
+    pub sound : IsSound p (joined v w)
+
+  -- the name x went from the pass with the view v to that with the view w
+  pub record Gives (p : S) (x : N) (v w v' w' : View E N) : Type 0 where
+    pub left : v' ≡ view v.seen (without (x ∷ []) v.keeps)
+    pub given : w' ≡ joined w (view v.seen (x ∷ []))
+    pub together : Together p w (view v.seen (x ∷ []))
 
 module _ {V : Type 0} where
   -- the seat is one of the table, whose one word counts the history; it has one view and no slot

@@ -1,8 +1,8 @@
 -- What each kind of step does to the views of a seat. What is said is picked by the call, for the proof alone.
-use Rattle.std.specs.Prelude.{◌≡◌, ℕ, Option, Some, None, IfSome, List, [], ◌∷◌, unwrap_or}
+use Rattle.std.specs.Prelude.{◌≡◌, ℕ, Option, IfSome, List, [], ◌∷◌, unwrap_or}
 use Rattle.atomic_table.specs.Table.{Me}
 use Rattle.dm_spine.specs.Past.{Meaning, Legal}
-use Rattle.dm_spine.specs.Rule.{view, sight, joined, without, Draws, Together}
+use Rattle.dm_spine.specs.Rule.{view, sight, joined, without, Draws, Together, IsSound}
 use Rattle.dm_spine.specs.declared.rule.View.{View}
 
 module _ {S N E : Type 0} (m : Meaning S N E) where
@@ -16,7 +16,7 @@ module _ {S N E : Type 0} (m : Meaning S N E) where
   settles_as said v w = IfSome said (λ p. (v' u : View E N) → v.0 ≡ v' ∷ (u ∷ []) → (w.0 ≡ joined v' u ∷ []) × (w.1 ≡ []) × Together m p v' u)
 
   abbrev pub looks_as : Option S → Me (Unit {0}) (List (View E N)) → Me (Unit {0}) (List (View E N)) → Type 0
-  looks_as said v w = IfSome said (λ p. (w ≡ v) × Legal m p (sight w.0).seen)
+  looks_as said v w = IfSome said (λ p. (w ≡ v) × Legal m p (sight w.0).seen × IsSound m p (sight w.0))
 
 module _ {N E : Type 0} where
   abbrev pub cut_right : Option (List N) → List (View E N) → List (View E N)

@@ -15,7 +15,7 @@ pub use laws::union_legal;
 pub use memory::NoMemory;
 pub use parts::{Note, Parts};
 pub use pass::{Pass, Past, Spine};
-pub use rule::{Ruled, View};
+pub use rule::View;
 
-
-
+#[cfg(test)]
+mod tests;

@@ -35,12 +35,12 @@ pub struct Past<P: Parts> {
 
 impl<P: Parts> Spine<P> {
     ghost use Rattle.std.specs.Prelude.{◌≡◌, [], IfOk};
-    ghost use Rattle.dm_spine.specs.Passes.{IsOn, parts_of, seen_by, kept_by};
+    ghost use Rattle.dm_spine.specs.Passes.{IsOn, spine_parts, parts_of, seen_by, kept_by};
 
     /// A history with no entry, and the pass that keeps every fixed name. With `NoMemory` nothing was begun.
     pub fn begin(alloc: Global, parts: P) -> Result<(Spine<P>, Pass<P>), NoMemory>
         ensures spine { IfOk result (λ r. IsOn r.0 r.1) }
-        ensures parts { IfOk result (λ r. parts_of r.1 ≡ parts) }
+        ensures parts { IfOk result (λ r. (spine_parts r.0 ≡ parts) × (parts_of r.1 ≡ parts)) }
         ensures seen { IfOk result (λ r. seen_by r.1 ≡ []) }
         ensures keeps { IfOk result (λ r. kept_by r.1 ≡ P.meaning.fixed parts) }
     {
@@ -54,9 +54,9 @@ impl<P: Parts> Spine<P> {
 }
 
 impl<P: Parts> Pass<P> {
-    ghost use Rattle.std.specs.Prelude.{◌≡◌, [], ◌∷◌, IfOk, OnOk, OnErr};
-    ghost use Rattle.dm_spine.specs.Past.{In, Legal};
-    ghost use Rattle.dm_spine.specs.Rule.{MayDraw, Draws, Together, view, joined, without};
+    ghost use Rattle.std.specs.Prelude.{◌≡◌, IfOk, OnOk, OnErr};
+    ghost use Rattle.dm_spine.specs.Past.{In, Legal, Rises};
+    ghost use Rattle.dm_spine.specs.Rule.{MayDraw, Draws, Together, Gives, view, joined, without};
     ghost use Rattle.dm_spine.specs.Passes.{IsBeside, parts_of, view_of, seen_by, kept_by, past_of};
 
     /// Draws the note's entry: it comes into the history at the number answered, above all that this pass had seen.
@@ -101,9 +101,7 @@ impl<P: Parts> Pass<P> {
         requires spine { IsBeside self.old other.old }
         requires keeps { In name (kept_by self.old) }
         ensures spine { IsBeside self.old self.new × IsBeside other.old other.new }
-        ensures left { view_of self.new ≡ view (seen_by self.old) (without P.meaning (name ∷ []) (kept_by self.old)) }
-        ensures given { view_of other.new ≡ joined (view_of other.old) (view (seen_by self.old) (name ∷ [])) }
-        ensures together { Together P.meaning (parts_of self.old) (view_of other.old) (view (seen_by self.old) (name ∷ [])) }
+        ensures gives { Gives P.meaning (parts_of self.old) name (view_of self.old) (view_of other.old) (view_of self.new) (view_of other.new) }
     {
         let seat = cut_at::<P, P::Name, Brand>(&self.table, &mut self.seat, &name);
         join_at::<P, Brand>(&other.table, &mut other.seat, seat);
@@ -112,6 +110,7 @@ impl<P: Parts> Pass<P> {
     /// What this pass has seen, for contracts alone. The names that it keeps are kept by no pass again.
     pub fn finish(self) -> Past<P>
         ensures seen { past_of result ≡ seen_by self }
+        ensures rises { Rises 0 (past_of result) }
         ensures legal { Legal P.meaning (parts_of self) (past_of result) }
     {
         let Pass { table, mut seat } = self;

@@ -1,7 +1,7 @@
 //! The atomic steps on the spine's word, as plays, a split and a join of its table.
 ghost use Rattle.std.specs.Prelude.{◌≡◌, [], ◌∷◌, ◌++◌, IfSome, IsSomeAnd};
 ghost use Rattle.dm_spine.specs.Past.{In, Legal};
-ghost use Rattle.dm_spine.specs.Rule.{IsSeated, MayDraw, Draws, Together, sight, view, joined, without};
+ghost use Rattle.dm_spine.specs.Rule.{IsSeated, IsSound, MayDraw, Draws, Together, sight, view, joined, without};
 ghost use Rattle.dm_spine.specs.Steps.{draws_as, settles_as, looks_as, cut_left, cut_right};
 
 use crate::parts::Parts;
@@ -15,7 +15,8 @@ pub(crate) struct Draw<P: Parts, W: Said<(P, P::Entry)>> {
     marker: PhantomData<(P, W)>,
 }
 
-impl<P: Parts, W: Said<(P, P::Entry)>> Play<(), LinkedList<View<P::Entry, P::Name>>> for Draw<P, W> {
+impl<P: Parts, W: Said<(P, P::Entry)>> Play<(), LinkedList<View<P::Entry, P::Name>>>
+    for Draw<P, W> {
     ghost then = { λ s v n w. draws_as P.meaning W.said v n w };
 }
 
@@ -24,7 +25,8 @@ pub(crate) struct Cut<P: Parts, W: Said<LinkedList<P::Name>>> {
     marker: PhantomData<(P, W)>,
 }
 
-impl<P: Parts, W: Said<LinkedList<P::Name>>> Split<LinkedList<View<P::Entry, P::Name>>> for Cut<P, W> {
+impl<P: Parts, W: Said<LinkedList<P::Name>>> Split<LinkedList<View<P::Entry, P::Name>>>
+    for Cut<P, W> {
     ghost left = { cut_left P.meaning W.said };
 
     ghost right = { cut_right W.said };
@@ -115,6 +117,7 @@ pub(crate) fn look_at<P: Parts, W: Said<P>>(table: &Rows<P>, seat: &mut Seat<(),
     ensures seated { IsSeated table.now.shared.table_id seat.new.table_id seat.new.me }
     ensures same { IfSome W.said (λ p. sight seat.new.me.0 ≡ sight seat.old.me.0) }
     ensures legal { IfSome W.said (λ p. Legal P.meaning p (sight seat.new.me.0).seen) }
+    ensures sound { IfSome W.said (λ p. IsSound P.meaning p (sight seat.new.me.0)) }
 {
     table.shared.load::<Look<P, W>>(seat, 0);
 }

@@ -1,4 +1,4 @@
-use Rattle.std.proofs.Common.{ap, ◌∙◌, sym, arith}
+use Rattle.std.proofs.Common.{ap, ◌∙◌, arith}
 use Rattle.dm_spine.proofs.Shares.{joins_said, settle_said, settled}
 use Rattle.dm_spine.proofs.steps.join_at.Goals as goal
 
@@ -10,7 +10,7 @@ join_seat-requires g c =
       other.same,
       other.bare,
       omega (arith, seated.counted),
-      joins_said g.P.Parts.meaning g.P.Parts.lawful c.args.table.now.shared.key c.args.seat.now.id c.args.other.id c.args.seat.now.me.0 c.args.other.me.0,
+      joins_said g.P.Parts.meaning g.P.Parts.lawful c.args.table.now.shared.key c.args.seat.now.id c.args.other.id c.args.seat.now.me.0 c.args.other.me.0 seated.single other.single,
     )
 
 pub load-requires : goal.load-requires
