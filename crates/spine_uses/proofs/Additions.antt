@@ -2,13 +2,12 @@
 use Rattle.std.proofs.Common.{◌≡◌, ℕ, ◌+◌, ◌*◌, ◌<◌, ◌≤◌, ◌==◌, true, false, not, List, [], ◌∷◌, ◌++◌, length, filter, Result, Ok, Err, IfOk, OnErr, MatchResult, refl, sym, ap, ◌∙◌, subst, inl, inr, length-append, arith}
 use Rattle.std.proofs.lemmas.Bool.{eqb-true, eq-eqb}
 use Rattle.dm_spine.specs.Past.{In, chain, at_home}
-use Rattle.dm_spine.specs.Rule.{view, joined, without, drawn, MayDraw, Together}
+use Rattle.dm_spine.specs.Rule.{MayDraw, Gives}
 use Rattle.dm_spine.specs.Passes.{seen_by, kept_by}
+use Rattle.dm_spine.specs.declared.pass.Pass.{Pass}
 use Rattle.dm_spine.specs.declared.rule.View.{View}
-use Rattle.dm_spine.proofs.Lists.{in_left, in_right, filter_in}
-use Rattle.dm_spine.proofs.Draws.{filter-last_in}
-use Rattle.dm_spine.proofs.Seats.{without_in}
-use Rattle.spine_uses.specs.Counting.{counting, is_about, added, replay, CanFollow}
+use Rattle.dm_spine.proofs.Uses.{chain-last, drawn_chain, still_kept, given_left_seen, other_kept, given_kept, given_chain, given_other}
+use Rattle.spine_uses.specs.Counting.{counting, lawful_counting, is_about, added, replay, CanFollow}
 use Rattle.spine_uses.specs.Tallies.{Totals, Stands, Enters, Adds, IsFull}
 use Rattle.spine_uses.specs.declared.counting.Added.{Added}
 use Rattle.spine_uses.specs.declared.counting.Counting.{Counting}
@@ -16,15 +15,13 @@ use Rattle.spine_uses.specs.declared.counting.Name.{Name}
 use Rattle.spine_uses.specs.declared.counting.Name.TheVariants.{Counter, Worker}
 use Rattle.spine_uses.specs.declared.tally.Full.{Full}
 use Rattle.spine_uses.specs.declared.tally.Tally.{Tally}
-use Rattle.spine_uses.proofs.Hands.{handed_chain, other_chain, handed_kept, other_kept, still_kept}
 
 pub replay-append : (xs ys : List (ℕ × Added)) → replay (xs ++ ys) ≡ replay xs + replay ys
 replay-append [] ys = omega arith
 replay-append (x ∷ xs) ys = let e = replay-append xs ys in omega arith
 
--- an entry about the name is the last of its chain
-pub chain-last : (x : Name) (xs : List (ℕ × Added)) (n : ℕ) (e : Added) → is_about e x ≡ true → chain counting x (xs ++ (n, e) ∷ []) ≡ chain counting x xs ++ (n, e) ∷ []
-chain-last x xs n e h = filter-last_in (λ a. is_about a.1 x) xs (n, e) h
+apart : {x y : ℕ} → Worker x ≡ Counter y → ⊥
+apart e = cc
 
 keeps_named : (worker number amount : ℕ) (names : List Name) (x : Name) → In (Counter number) names → In (Worker worker) names → is_about (added worker number amount) x ≡ true → In x names
 keeps_named worker number amount names (Counter y) c w e = subst (λ z. In (Counter z) names) (eqb-true number y e) c
@@ -58,7 +55,7 @@ totals_more worker number total count amount n xs little sums =
     let k = sums.counted in
     let s = sums.small in
     let e = added worker number amount in
-    let grown = chain-last (Counter number) xs n e (eq-eqb number number refl) in
+    let grown = chain-last counting (Counter number) xs n e (eq-eqb number number refl) in
     record {
       replayed = let r : replay (chain counting (Counter number) (xs ++ (n, e) ∷ [])) ≡ replay (chain counting (Counter number) xs) + replay ((n, e) ∷ []) = ap replay grown ∙ replay-append (chain counting (Counter number) xs) ((n, e) ∷ []) in omega arith;
       counted = let r : at_home counting (Counter number) (xs ++ (n, e) ∷ []) ≡ at_home counting (Counter number) xs + 1 = ap length grown ∙ length-append (chain counting (Counter number) xs) ((n, e) ∷ []) in omega arith;
@@ -73,39 +70,51 @@ totals_same number total count xs ys e sums = record {
     small = sums.small;
   }
 
--- What `enter` did or left: w became z
-module _ (number worker amount total : ℕ) (w z : View Added Name) where
+-- What `enter` did, or left
+module _ {q : Counting} (number worker amount total : ℕ) (v w : View Added Name) where
   abbrev pub Entered : Result ℕ Full → Type 0
-  Entered r = IfOk r (λ t. Enters w (added worker number amount) z × (t ≡ total))
+  Entered s = IfOk s (λ t. Enters q v (added worker number amount) w × (t ≡ total))
 
   abbrev pub Left : Result ℕ Full → Type 0
-  Left r = OnErr r ((z ≡ w) × IsFull number w.seen)
+  Left s = OnErr s ((w ≡ v) × IsFull number v.seen)
 
-  pub entered_keeps : (r : Result ℕ Full) (y : Name) → Entered r → Left r → In y w.keeps → In y z.keeps
-  entered_keeps (Ok t) y e f k =
-    let P : View Added Name → Type 0 = λ u. In y u.keeps in
-    subst P (sym e.0.1) (in_left y (filter (λ x. not (counting.ends (added worker number amount) x)) w.keeps) [] (filter_in (λ x. not (counting.ends (added worker number amount) x)) y w.keeps k refl))
-  entered_keeps (Err q) y e f k = let P : View Added Name → Type 0 = λ u. In y u.keeps in subst P (sym f.0) k
+  pub entered_keeps : (s : Result ℕ Full) (y : Name) → Entered s → Left s → In y v.keeps → In y w.keeps
+  entered_keeps (Ok t) y e f h = still_kept e.0.1 y h refl
+  entered_keeps (Err x) y e f h = let P : View Added Name → Type 0 = λ u. In y u.keeps in subst P (sym f.0) h
 
-  -- counters and own are what the counter's pass and the worker's had seen before, last what the worker's sees after
-  pub adds_said : (r : Result ℕ Full) (counters own last : List (ℕ × Added)) → Entered r → Left r
-      → chain counting (Counter number) w.seen ≡ chain counting (Counter number) counters
-      → chain counting (Worker worker) w.seen ≡ chain counting (Worker worker) own
-      → last ≡ z.seen
-      → total ≡ replay (chain counting (Counter number) z.seen)
-      → MatchResult r
-          (λ t. Adds number counters own (added worker number amount) t last)
-          (λ _. IsFull number last × (chain counting (Worker worker) last ≡ chain counting (Worker worker) own))
-  adds_said (Ok t) counters own last e f c o l s =
+-- and between the two hands that the counter's name passed through
+module _ {p q r : Counting} (number worker amount total : ℕ) {k w k1 w1 w2 k2 w3 k3 : View Added Name}
+    (there : Gives counting p (Counter number) k w k1 w1) (back : Gives counting r (Counter number) w2 k2 w3 k3) where
+  pub worker_kept : (s : Result ℕ Full) → Entered {q = q} number worker amount total w1 w2 s → Left {q = q} number worker amount total w1 w2 s → In (Worker worker) w.keeps → In (Worker worker) w3.keeps
+  worker_kept s e f h = other_kept lawful_counting back (Worker worker) (entered_keeps {q = q} number worker amount total w1 w2 s (Worker worker) e f (given_kept lawful_counting there (Worker worker) h)) (λ d. apart d)
+
+  pub adds_said : (s : Result ℕ Full) → Entered {q = q} number worker amount total w1 w2 s → Left {q = q} number worker amount total w1 w2 s → In (Worker worker) w.keeps → total ≡ replay (chain counting (Counter number) w2.seen)
+      → MatchResult s
+          (λ t. Adds number k.seen w.seen (added worker number amount) t w3.seen)
+          (λ _. IsFull number w3.seen × (chain counting (Worker worker) w3.seen ≡ chain counting (Worker worker) w.seen))
+  adds_said (Ok t) e f h same =
     let a = added worker number amount in
-    let seen : z.seen ≡ w.seen ++ (e.0.0, a) ∷ [] = ap (λ u. u.seen) e.0.1 in
+    let n = e.0.0 in
+    let drew = e.0.1 in
+    let last = given_left_seen lawful_counting back in
     record {
-      at = e.0.0;
-      counter = ap (λ xs. chain counting (Counter number) xs) (l ∙ seen) ∙ (chain-last (Counter number) w.seen e.0.0 a (eq-eqb number number refl) ∙ ap (λ xs. xs ++ (e.0.0, a) ∷ []) c);
-      worker = ap (λ xs. chain counting (Worker worker) xs) (l ∙ seen) ∙ (chain-last (Worker worker) w.seen e.0.0 a (eq-eqb worker worker refl) ∙ ap (λ xs. xs ++ (e.0.0, a) ∷ []) o);
-      total = e.1 ∙ (s ∙ ap (λ xs. replay (chain counting (Counter number) xs)) (sym l));
+      at = n;
+      counter = ap (λ xs. chain counting (Counter number) xs) last ∙ (drawn_chain drew (Counter number) (eq-eqb number number refl) ∙ ap (λ xs. xs ++ (n, a) ∷ []) (given_chain lawful_counting there));
+      worker = ap (λ xs. chain counting (Worker worker) xs) last ∙ (drawn_chain drew (Worker worker) (eq-eqb worker worker refl) ∙ ap (λ xs. xs ++ (n, a) ∷ []) (given_other lawful_counting there (Worker worker) h));
+      total = e.1 ∙ (same ∙ ap (λ xs. replay (chain counting (Counter number) xs)) (sym last));
     }
-  adds_said (Err q) counters own last e f c o l s =
-    let seen : last ≡ w.seen = l ∙ ap (λ u. u.seen) f.0 in
+  adds_said (Err x) e f h same =
+    let seen : w3.seen ≡ w1.seen = given_left_seen lawful_counting back ∙ ap (λ u. u.seen) f.0 in
     let P : List (ℕ × Added) → Type 0 = λ xs. IsFull number xs in
-    (subst P (sym seen) f.1, ap (λ xs. chain counting (Worker worker) xs) seen ∙ o)
+    (subst P (sym seen) f.1, ap (λ xs. chain counting (Worker worker) xs) seen ∙ given_other lawful_counting there (Worker worker) h)
+
+pub stands_said : (new number total count : ℕ) (pass : Pass Counting Name Added) (xs : List (ℕ × Added)) → new ≡ number → number < 2 → In (Counter number) (kept_by pass)
+    → chain counting (Counter number) (seen_by pass) ≡ chain counting (Counter number) xs → Totals new total count xs → Stands record { number = new; total = total; count = count; pass = pass }
+stands_said new number total count pass xs e known keeps same sums =
+    let K : ℕ → Type 0 = λ n. In (Counter n) (kept_by pass) in
+    let C : ℕ → Type 0 = λ n. chain counting (Counter n) (seen_by pass) ≡ chain counting (Counter n) xs in
+    record {
+      known = omega arith;
+      keeps = subst K (sym e) keeps;
+      sums = totals_same new total count xs (seen_by pass) (subst C (sym e) same) sums;
+    }

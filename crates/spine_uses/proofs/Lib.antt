@@ -1,3 +1,2 @@
 pub mod Locks
-pub mod Hands
 pub mod Additions

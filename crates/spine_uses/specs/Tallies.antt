@@ -1,11 +1,12 @@
 -- A counter under a lock, and what an addition does.
 use Rattle.std.specs.Prelude.{◌≡◌, ℕ, ◌+◌, ◌*◌, ◌<◌, ◌≤◌, List, [], ◌∷◌, ◌++◌, length}
 use Rattle.dm_spine.specs.Past.{In, chain, at_home}
-use Rattle.dm_spine.specs.Rule.{drawn}
+use Rattle.dm_spine.specs.Rule.{Draws}
 use Rattle.dm_spine.specs.Passes.{IsOn, seen_by, kept_by}
 use Rattle.dm_spine.specs.declared.rule.View.{View}
 use Rattle.spine_uses.specs.Counting.{counting, replay}
 use Rattle.spine_uses.specs.declared.counting.Added.{Added}
+use Rattle.spine_uses.specs.declared.counting.Counting.{Counting}
 use Rattle.spine_uses.specs.declared.counting.Name.{Name}
 use Rattle.spine_uses.specs.declared.counting.Name.TheVariants.{Counter, Worker}
 use Rattle.spine_uses.specs.declared.tally.Place.{Place}
@@ -32,8 +33,8 @@ pub record FitsPlace (place : Place) (t : Tally) : Type 0 where
   pub stands : Stands t
 
 -- the entry was drawn
-abbrev pub Enters : View Added Name → Added → View Added Name → Type 0
-Enters v e w = (n : ℕ) × (w ≡ drawn counting n e v)
+abbrev pub Enters : Counting → View Added Name → Added → View Added Name → Type 0
+Enters p v e w = (n : ℕ) × Draws counting p e v n w
 
 -- there are as many entries of the counter as there may be
 abbrev pub IsFull : ℕ → List (ℕ × Added) → Type 0

@@ -36,7 +36,7 @@ impl Fits<Place> for Tally {
 impl Tally {
     ghost use Rattle.std.specs.Prelude.{◌≡◌, ℕ, ◌<◌, ◌≤◌, IfOk, OnOk, OnErr, MatchResult};
     ghost use Rattle.dm_spine.specs.Past.{In, chain};
-    ghost use Rattle.dm_spine.specs.Passes.{IsBeside, view_of, seen_by, kept_by};
+    ghost use Rattle.dm_spine.specs.Passes.{IsBeside, parts_of, view_of, seen_by, kept_by};
     ghost use Rattle.spine_uses.specs.Counting.{counting, added};
     ghost use Rattle.spine_uses.specs.Tallies.{Sums, Stands, Enters, Adds, IsFull};
 
@@ -48,7 +48,7 @@ impl Tally {
         ensures same { (self.new.pass ≡ self.old.pass) × (self.new.number ≡ self.old.number) }
         ensures beside { IsBeside me.old me.new }
         ensures sums { Sums self.new (seen_by me.new) }
-        ensures entered { IfOk result (λ total. Enters (view_of me.old) (added worker self.old.number amount) (view_of me.new) × (total ≡ self.new.total)) }
+        ensures entered { IfOk result (λ total. Enters (parts_of me.old) (view_of me.old) (added worker self.old.number amount) (view_of me.new) × (total ≡ self.new.total)) }
         ensures full { OnErr result ((view_of me.new ≡ view_of me.old) × IsFull self.old.number (seen_by me.old)) }
     {
         if self.count >= ROOM {
@@ -79,9 +79,10 @@ impl Tally {
             (λ total. Adds self.old.number (seen_by self.old.pass) (seen_by me.old) (added worker self.old.number amount) total (seen_by me.new))
             (λ _. IsFull self.old.number (seen_by me.new) × (chain counting (Name.Worker worker) (seen_by me.new) ≡ chain counting (Name.Worker worker) (seen_by me.old))) }
     {
-        self.pass.give(me, Name::Counter(self.number));
+        let number = self.number;
+        self.pass.give(me, Name::Counter(number));
         let entered = self.enter(me, worker, amount);
-        me.give(&mut self.pass, Name::Counter(self.number));
+        me.give(&mut self.pass, Name::Counter(number));
         entered
     }
 }
