@@ -3,6 +3,8 @@ ghost use Rattle.std.specs.Prelude.{◌≡◌, ◌≤◌, IsTrue};
 ghost use Rattle.dm_spine.specs.Past.{has};
 ghost use Rattle.dm_spine.specs.Passes.{IsOn, kept_by};
 ghost use Rattle.spine_uses.specs.Counting.{counting};
+ghost use Rattle.spine_uses.specs.declared.counting.Name.{Name};
+ghost use Rattle.spine_uses.specs.declared.counting.Name.TheVariants.{Worker};
 
 use crate::counting::{Counting, Name};
 use crate::lock::Lock;
@@ -17,7 +19,7 @@ pub struct Session<'a, R: Wait> {
     pass: Pass<Counting>,
     worker: u32,
     ghost beside: { IsOn lock.now.table.shared.key.spine pass },
-    ghost keeps: { IsTrue (has counting (Name.Worker worker) (kept_by pass)) },
+    ghost keeps: { IsTrue (has counting (Worker worker) (kept_by pass)) },
     ghost known: { (1 ≤ worker) × (worker ≤ 2) },
 }
 
@@ -76,9 +78,9 @@ impl<'a, R: Wait> Session<'a, R> {
 
     /// The session's pass, at its end.
     pub fn end(self) -> Pass<Counting>
-        ensures pass { result ≡ self.pass }
-        ensures beside { IsOn self.lock.now.table.shared.key.spine result }
-        ensures keeps { In (Name.Worker self.worker) (kept_by result) }
+        ensures pass { result ≡ self.entry.pass }
+        ensures beside { IsOn self.entry.lock.now.table.shared.key.spine result }
+        ensures keeps { In (Name.Worker self.entry.worker) (kept_by result) }
     {
         let Session { pass, rt: _, lock: _, worker: _ } = self;
         pass
