@@ -73,6 +73,28 @@ fn work<R: Wait>(
     (session.end(), done)
 }
 
+// A counter under its lock, and the passes of its two workers.
+fn begin_all(
+    alloc: Global,
+) -> Result<(Lock<Tally, Place>, Pass<Counting>, Pass<Counting>), NoMemory>
+    ensures number { IfOk result (λ r. r.0.table.shared.key.number ≡ 0) }
+    ensures spine { IfOk result (λ r. IsOn r.0.table.shared.key.spine r.1 × IsOn r.0.table.shared.key.spine r.2) }
+    ensures keeps { IfOk result (λ r. In (Name.Worker 1) (kept_by r.1) × In (Name.Worker 2) (kept_by r.2)) }
+    ensures seen { IfOk result (λ r. (seen_by r.1 ≡ []) × (seen_by r.2 ≡ [])) }
+{
+    let (spine, mut pass) = Spine::begin(alloc, Counting)?;
+    let one = worker_pass(&mut pass, alloc, 1)?;
+    let two = worker_pass(&mut pass, alloc, 2)?;
+    let place = Place { spine, number: 0 };
+    let tally = Tally {
+        number: 0,
+        total: 0,
+        count: 0,
+        pass,
+    };
+    Ok((Lock::begin(alloc, &place, tally)?, one, two))
+}
+
 // The end of a run: the workers' passes and the counter's are joined.
 fn finish_all(tally: Tally, one: Pass<Counting>, two: Pass<Counting>) -> (Past<Counting>, u64)
     requires stands { Stands tally }
@@ -107,17 +129,7 @@ pub fn run_both<R: Threads + Wait + Sync>(
     ensures total { IfOk result (λ r. r.1 ≡ replay (chain counting (Name.Counter 0) (past_of r.0))) }
     ensures sum { IfOk result (λ r. r.1 ≡ sum first.now + sum second.now) }
 {
-    let (spine, mut pass) = Spine::begin(alloc, Counting)?;
-    let one = worker_pass(&mut pass, alloc, 1)?;
-    let two = worker_pass(&mut pass, alloc, 2)?;
-    let place = Place { spine, number: 0 };
-    let tally = Tally {
-        number: 0,
-        total: 0,
-        count: 0,
-        pass,
-    };
-    let counter = Lock::begin(alloc, &place, tally)?;
+    let (counter, one, two) = begin_all(alloc)?;
     let lock = &counter;
     let ((one, first_done), (two, second_done)) = thread::join(
         rt,
