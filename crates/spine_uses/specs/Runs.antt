@@ -1,0 +1,28 @@
+-- What a run of two workers leaves.
+use Rattle.std.specs.Prelude.{◌≡◌, ℕ, ◌+◌, List, [], ◌∷◌, ◌++◌, map}
+use Rattle.dm_spine.specs.Past.{Legal, chain}
+use Rattle.spine_uses.specs.Counting.{counting, added, replay}
+use Rattle.spine_uses.specs.declared.counting.Added.{Added}
+use Rattle.spine_uses.specs.declared.counting.Counting.{Counting}
+use Rattle.spine_uses.specs.declared.counting.Name.TheVariants.{Counter, Worker}
+
+-- each entry may come after those before it
+abbrev pub IsLegal : List (ℕ × Added) → Type 0
+IsLegal xs = (p : Counting) → Legal counting p xs
+
+-- the entries of the worker, in order
+abbrev pub entries_by : ℕ → List (ℕ × Added) → List Added
+entries_by worker xs = map (λ a. a.1) (chain counting (Worker worker) xs)
+
+-- the entries that the worker makes of the amounts
+abbrev pub entries_of : ℕ → ℕ → List ℕ → List Added
+entries_of worker counter amounts = map (λ n. added worker counter n) amounts
+
+-- The worker's entries have the entry at their end. The worker has seen the counter's entries up to it, and the total is
+-- their replay
+pub record AddsOne (counter : ℕ) (own : List (ℕ × Added)) (e : Added) (answer : ℕ) (seen : List (ℕ × Added)) : Type 0 where
+  pub at : ℕ
+  pub before : List (ℕ × Added)
+  pub counters : chain counting (Counter counter) seen ≡ before ++ (at, e) ∷ []
+  pub workers : chain counting (Worker e.worker) seen ≡ chain counting (Worker e.worker) own ++ (at, e) ∷ []
+  pub total : answer ≡ replay (chain counting (Counter counter) seen)
