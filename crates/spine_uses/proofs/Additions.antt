@@ -1,5 +1,5 @@
 -- One addition to a counter.
-use Rattle.std.proofs.Common.{◌≡◌, ℕ, ◌+◌, ◌*◌, ◌<◌, ◌≤◌, ◌==◌, true, false, not, List, [], ◌∷◌, ◌++◌, length, filter, Result, Ok, Err, IfOk, OnErr, MatchResult, refl, sym, ap, ◌∙◌, subst, inl, inr, length-append, arith}
+use Rattle.std.proofs.Common.{◌≡◌, ℕ, ◌+◌, ◌<◌, ◌≤◌, true, List, [], ◌∷◌, ◌++◌, length, Result, Ok, Err, IfOk, OnErr, MatchResult, refl, sym, ap, ◌∙◌, subst, length-append, arith}
 use Rattle.std.proofs.lemmas.Bool.{eqb-true, eq-eqb}
 use Rattle.dm_spine.specs.Past.{In, chain, at_home}
 use Rattle.dm_spine.specs.Rule.{MayDraw, Gives}
@@ -14,7 +14,6 @@ use Rattle.spine_uses.specs.declared.counting.Counting.{Counting}
 use Rattle.spine_uses.specs.declared.counting.Name.{Name}
 use Rattle.spine_uses.specs.declared.counting.Name.TheVariants.{Counter, Worker}
 use Rattle.spine_uses.specs.declared.tally.Full.{Full}
-use Rattle.spine_uses.specs.declared.tally.Tally.{Tally}
 
 pub replay-append : (xs ys : List (ℕ × Added)) → replay (xs ++ ys) ≡ replay xs + replay ys
 replay-append [] ys = omega arith
@@ -65,10 +64,10 @@ totals_more worker number total count amount n xs little sums =
 -- totals speak of the counter's chain alone
 pub totals_same : (number total count : ℕ) (xs ys : List (ℕ × Added)) → chain counting (Counter number) ys ≡ chain counting (Counter number) xs → Totals number total count xs → Totals number total count ys
 totals_same number total count xs ys e sums = record {
-    replayed = sums.replayed ∙ ap replay (sym e);
-    counted = sums.counted ∙ ap length (sym e);
-    small = sums.small;
-  }
+  replayed = sums.replayed ∙ ap replay (sym e);
+  counted = sums.counted ∙ ap length (sym e);
+  small = sums.small;
+}
 
 -- What `enter` did, or left
 module _ {q : Counting} (number worker amount total : ℕ) (v w : View Added Name) where
@@ -90,23 +89,23 @@ module _ {p q r : Counting} (number worker amount total : ℕ) {k w k1 w1 w2 k2 
 
   pub adds_said : (s : Result ℕ Full) → Entered {q = q} number worker amount total w1 w2 s → Left {q = q} number worker amount total w1 w2 s → In (Worker worker) w.keeps → total ≡ replay (chain counting (Counter number) w2.seen)
       → MatchResult s
-          (λ t. Adds number k.seen w.seen (added worker number amount) t w3.seen)
-          (λ _. IsFull number w3.seen × (chain counting (Worker worker) w3.seen ≡ chain counting (Worker worker) w.seen))
+      (λ t. Adds number k.seen w.seen (added worker number amount) t w3.seen)
+      (λ _. IsFull number w3.seen × (chain counting (Worker worker) w3.seen ≡ chain counting (Worker worker) w.seen))
   adds_said (Ok t) e f h same =
-    let a = added worker number amount in
-    let n = e.0.0 in
-    let drew = e.0.1 in
-    let last = given_left_seen lawful_counting back in
-    record {
-      at = n;
-      counter = ap (λ xs. chain counting (Counter number) xs) last ∙ (drawn_chain drew (Counter number) (eq-eqb number number refl) ∙ ap (λ xs. xs ++ (n, a) ∷ []) (given_chain lawful_counting there));
-      worker = ap (λ xs. chain counting (Worker worker) xs) last ∙ (drawn_chain drew (Worker worker) (eq-eqb worker worker refl) ∙ ap (λ xs. xs ++ (n, a) ∷ []) (given_other lawful_counting there (Worker worker) h));
-      total = e.1 ∙ (same ∙ ap (λ xs. replay (chain counting (Counter number) xs)) (sym last));
-    }
+      let a = added worker number amount in
+      let n = e.0.0 in
+      let drew = e.0.1 in
+      let last = given_left_seen lawful_counting back in
+      record {
+        at = n;
+        counter = ap (λ xs. chain counting (Counter number) xs) last ∙ (drawn_chain drew (Counter number) (eq-eqb number number refl) ∙ ap (λ xs. xs ++ (n, a) ∷ []) (given_chain lawful_counting there));
+        worker = ap (λ xs. chain counting (Worker worker) xs) last ∙ (drawn_chain drew (Worker worker) (eq-eqb worker worker refl) ∙ ap (λ xs. xs ++ (n, a) ∷ []) (given_other lawful_counting there (Worker worker) h));
+        total = e.1 ∙ (same ∙ ap (λ xs. replay (chain counting (Counter number) xs)) (sym last));
+      }
   adds_said (Err x) e f h same =
-    let seen : w3.seen ≡ w1.seen = given_left_seen lawful_counting back ∙ ap (λ u. u.seen) f.0 in
-    let P : List (ℕ × Added) → Type 0 = λ xs. IsFull number xs in
-    (subst P (sym seen) f.1, ap (λ xs. chain counting (Worker worker) xs) seen ∙ given_other lawful_counting there (Worker worker) h)
+      let seen : w3.seen ≡ w1.seen = given_left_seen lawful_counting back ∙ ap (λ u. u.seen) f.0 in
+      let P : List (ℕ × Added) → Type 0 = λ xs. IsFull number xs in
+      (subst P (sym seen) f.1, ap (λ xs. chain counting (Worker worker) xs) seen ∙ given_other lawful_counting there (Worker worker) h)
 
 pub stands_said : (new number total count : ℕ) (pass : Pass Counting Name Added) (xs : List (ℕ × Added)) → new ≡ number → number < 2 → In (Counter number) (kept_by pass)
     → chain counting (Counter number) (seen_by pass) ≡ chain counting (Counter number) xs → Totals new total count xs → Stands record { number = new; total = total; count = count; pass = pass }

@@ -1,6 +1,6 @@
 -- A session's additions, of which no clause names the locked counter.
-use Rattle.std.proofs.Common.{◌≡◌, ℕ, suc, ◌+◌, ◌<◌, List, ◌∷◌, ◌++◌, [], length, map, take, get_or, Result, Ok, Err, MatchResult, OnErr, sym, ap, ◌∙◌, subst, arith}
-use Rattle.std.proofs.lemmas.List.{map-append, append_assoc}
+use Rattle.std.proofs.Common.{◌≡◌, ℕ, suc, ◌+◌, ◌<◌, ◌≤◌, List, ◌∷◌, ◌++◌, [], length, map, take, get_or, Result, Ok, Err, MatchResult, OnErr, sym, ap, ◌∙◌, subst, length-append, arith}
+use Rattle.std.proofs.lemmas.List.{map-append, append_assoc, length-map, length-take-le}
 use Rattle.std.proofs.Math.Seq.{take-suc}
 use Rattle.dm_spine.specs.Past.{chain}
 use Rattle.spine_uses.specs.Counting.{counting, added}
@@ -49,3 +49,11 @@ entries_step worker number w n first own seen i answer amounts e f h so_far l =
 pub on_err : {A E : Type 0} {P : Type 0} (r : Result A E) → P → OnErr r P
 on_err (Ok x) h = tt
 on_err (Err e) h = h
+
+-- a worker has as many entries more as it took amounts
+pub entries_few : (worker number i : ℕ) (amounts : List ℕ) (own seen : List (ℕ × Added)) → entries_by worker seen ≡ entries_by worker own ++ entries_of worker number (take i amounts)
+    → i ≤ length amounts → length (entries_by worker seen) ≤ length (entries_by worker own) + length amounts
+entries_few worker number i amounts own seen e l =
+    let n : length (entries_of worker number (take i amounts)) ≡ i = length-map (take i amounts) (λ k. added worker number k) ∙ length-take-le i amounts l in
+    let s : length (entries_by worker seen) ≡ length (entries_by worker own) + length (entries_of worker number (take i amounts)) = ap length e ∙ length-append (entries_by worker own) (entries_of worker number (take i amounts)) in
+    omega arith

@@ -2,7 +2,7 @@
 use Rattle.std.specs.Prelude.{◌≡◌, ℕ, ◌+◌, ◌<◌, ◌≤◌, Bool, true, false, ◌==◌, List, [], ◌∷◌}
 use Rattle.std.proofs.Common.{ap, refl, sym, lit≤}
 use Rattle.std.proofs.lemmas.Bool.{eqb-true, eq-eqb, true≢false}
-use Rattle.dm_spine.specs.Past.{Meaning, Lawful, IsPart, chain}
+use Rattle.dm_spine.specs.Past.{Meaning, Lawful}
 use Rattle.spine_uses.specs.declared.counting.Added.{Added}
 use Rattle.spine_uses.specs.declared.counting.Counting.{Counting}
 use Rattle.spine_uses.specs.declared.counting.Name.{Name}
@@ -34,16 +34,16 @@ CanFollow (Worker x) xs e = Unit {0}
 
 abbrev pub counting : Meaning Counting Name Added
 counting = record {
-    same = same_name;
-    fixed = λ p. Counter 0 ∷ Counter 1 ∷ Worker 1 ∷ Worker 2 ∷ [];
-    about = is_about;
-    home = λ e. Counter e.counter;
-    makes = λ n e. [];
-    ends = λ e x. false;
-    maker = λ x. x;
-    needs = λ p xs e. (e.counter < 2) × (1 ≤ e.worker) × (e.worker ≤ 2);
-    follows = λ p x xs e. CanFollow x xs e;
-  }
+  same = same_name;
+  fixed = λ p. Counter 0 ∷ Counter 1 ∷ Worker 1 ∷ Worker 2 ∷ [];
+  about = is_about;
+  home = λ e. Counter e.counter;
+  makes = λ n e. [];
+  ends = λ e x. false;
+  maker = λ x. x;
+  needs = λ p xs e. (e.counter < 2) × (1 ≤ e.worker) × (e.worker ≤ 2);
+  follows = λ p x xs e. CanFollow x xs e;
+}
 
 same_name_is : (x y : Name) → same_name x y ≡ true → x ≡ y
 same_name_is (Counter x) (Counter y) e = ap (λ n. Counter n) (eqb-true x y e)
@@ -57,13 +57,13 @@ same_name_self (Worker x) = eq-eqb x x refl
 
 pub lawful_counting : Lawful counting
 lawful_counting = record {
-    same_is = same_name_is;
-    same_self = same_name_self;
-    home_about = λ e. eq-eqb e.counter e.counter refl;
-    ends_about = λ e x h. absurd (true≢false (sym h));
-    makes_about = λ n e x h. absurd h;
-    makes_loose = λ p n e x h k. h;
-    homes_stay = λ n e f h. h;
-    fixed_few = λ p. lit≤ tt;
-    needs_grow = λ p xs ys e part same h. h;
-  }
+  same_is = same_name_is;
+  same_self = same_name_self;
+  home_about = λ e. eq-eqb e.counter e.counter refl;
+  ends_about = λ e x h. absurd (true≢false (sym h));
+  makes_about = λ n e x h. absurd h;
+  makes_loose = λ p n e x h k. h;
+  homes_stay = λ n e f h. h;
+  fixed_few = λ p. lit≤ tt;
+  needs_grow = λ p xs ys e part same h. h;
+}

@@ -1,9 +1,15 @@
 -- What a run of two workers leaves.
-use Rattle.std.specs.Prelude.{◌≡◌, ℕ, ◌+◌, List, [], ◌∷◌, ◌++◌, map}
-use Rattle.dm_spine.specs.Past.{Legal, chain}
+use Rattle.std.specs.Prelude.{◌≡◌, ℕ, ◌+◌, ◌≤◌, List, [], ◌∷◌, ◌++◌, length, map, Result, OnOk, OnErr}
+use Rattle.dm_spine.specs.Past.{In, Legal, chain}
+use Rattle.dm_spine.specs.Passes.{IsOn, seen_by, kept_by}
+use Rattle.dm_spine.specs.declared.pass.Pass.{Pass}
+use Rattle.spine_uses.specs.Tallies.{IsFull}
 use Rattle.spine_uses.specs.Counting.{counting, added, replay}
 use Rattle.spine_uses.specs.declared.counting.Added.{Added}
 use Rattle.spine_uses.specs.declared.counting.Counting.{Counting}
+use Rattle.spine_uses.specs.declared.counting.Name.{Name}
+use Rattle.spine_uses.specs.declared.tally.Full.{Full}
+use Rattle.spine_uses.specs.declared.tally.Place.{Place}
 use Rattle.spine_uses.specs.declared.counting.Name.TheVariants.{Counter, Worker}
 
 -- each entry may come after those before it
@@ -26,3 +32,11 @@ pub record AddsOne (counter : ℕ) (own : List (ℕ × Added)) (e : Added) (answ
   pub counters : chain counting (Counter counter) seen ≡ before ++ (at, e) ∷ []
   pub workers : chain counting (Worker e.worker) seen ≡ chain counting (Worker e.worker) own ++ (at, e) ∷ []
   pub total : answer ≡ replay (chain counting (Counter counter) seen)
+
+-- What a worker's whole work leaves: all its amounts were added, or the counter is full
+pub record Works (place : Place) (worker : ℕ) (amounts : List ℕ) (before after : Pass Counting Name Added) (done : Result (Unit {0}) Full) : Type 0 where
+  pub beside : IsOn place.spine after
+  pub keeps : In (Worker worker) (kept_by after)
+  pub entries : OnOk done (entries_by worker (seen_by after) ≡ entries_by worker (seen_by before) ++ entries_of worker place.number amounts)
+  pub full : OnErr done (IsFull place.number (seen_by after))
+  pub few : length (entries_by worker (seen_by after)) ≤ length (entries_by worker (seen_by before)) + length amounts

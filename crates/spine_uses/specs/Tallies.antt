@@ -1,5 +1,5 @@
 -- A counter under a lock, and what an addition does.
-use Rattle.std.specs.Prelude.{◌≡◌, ℕ, ◌+◌, ◌*◌, ◌<◌, ◌≤◌, List, [], ◌∷◌, ◌++◌, length}
+use Rattle.std.specs.Prelude.{◌≡◌, ℕ, ◌*◌, ◌<◌, ◌≤◌, List, [], ◌∷◌, ◌++◌}
 use Rattle.dm_spine.specs.Past.{In, chain, at_home}
 use Rattle.dm_spine.specs.Rule.{Draws}
 use Rattle.dm_spine.specs.Passes.{IsOn, seen_by, kept_by}

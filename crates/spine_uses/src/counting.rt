@@ -24,6 +24,7 @@ pub struct Added {
 
 impl Parts for Counting {
     type Name = Name;
+
     type Entry = Added;
 
     ghost meaning = { counting };

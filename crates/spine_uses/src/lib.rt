@@ -12,7 +12,7 @@ mod tally;
 
 pub use counting::{Added, Counting, Name};
 pub use lock::{Fits, Loan, Lock};
-pub use run::{Refused, run_both};
+pub use run::run_both;
 pub use session::Session;
 pub use tally::{Full, Place, Tally};
 

@@ -1,11 +1,11 @@
 //! Two workers in threads of their own.
-ghost use Rattle.std.specs.Prelude.{◌≡◌, ℕ, ◌+◌, ◌≤◌, ◌⊎◌, [], ◌∷◌, ◌++◌, IfOk, OnOk, OnErr, sum};
+ghost use Rattle.std.specs.Prelude.{◌≡◌, ℕ, ◌+◌, ◌<◌, ◌≤◌, ◌⊎◌, [], ◌∷◌, ◌++◌, IfOk, OnOk, OnErr, length, sum};
 ghost use Rattle.dm_spine.specs.Past.{In, Rises, chain};
 ghost use Rattle.dm_spine.specs.Rule.{view, without};
 ghost use Rattle.dm_spine.specs.Passes.{IsOn, IsBeside, view_of, seen_by, kept_by, past_of};
 ghost use Rattle.spine_uses.specs.Counting.{counting, replay};
 ghost use Rattle.spine_uses.specs.Tallies.{Stands, IsFull};
-ghost use Rattle.spine_uses.specs.Runs.{IsLegal, entries_by, entries_of};
+ghost use Rattle.spine_uses.specs.Runs.{IsLegal, Works, entries_by, entries_of};
 
 use crate::counting::{Added, Counting, Name};
 use crate::lock::Lock;
@@ -16,25 +16,6 @@ use std::alloc::Global;
 use std::sync::Wait;
 use std::thread;
 use std::thread::Threads;
-
-/// Why a run has no result.
-#[derive(Clone, Copy, Debug, PartialEq, Eq)]
-pub enum Refused {
-    NoMemory,
-    Full,
-}
-
-impl From<NoMemory> for Refused {
-    fn from(_refused: NoMemory) -> Refused {
-        Refused::NoMemory
-    }
-}
-
-impl From<Full> for Refused {
-    fn from(_full: Full) -> Refused {
-        Refused::Full
-    }
-}
 
 // A pass that keeps the worker's name, cut from one that keeps it.
 fn worker_pass(
@@ -63,10 +44,7 @@ fn work<R: Wait>(
     requires beside { IsOn lock.now.table.shared.key.spine pass }
     requires keeps { In (Name.Worker worker) (kept_by pass) }
     requires known { (1 ≤ worker) × (worker ≤ 2) }
-    ensures beside { IsOn lock.now.table.shared.key.spine result.0 }
-    ensures keeps { In (Name.Worker worker) (kept_by result.0) }
-    ensures done { OnOk result.1 (entries_by worker (seen_by result.0) ≡ entries_by worker (seen_by pass) ++ entries_of worker lock.now.table.shared.key.number amounts.now) }
-    ensures full { OnErr result.1 (IsFull lock.now.table.shared.key.number (seen_by result.0)) }
+    ensures { Works lock.now.table.shared.key worker amounts.now pass result.0 result.1 }
 {
     let mut session = Session::begin(rt, lock, pass, worker);
     let done = session.add_all(amounts);
@@ -95,6 +73,30 @@ fn begin_all(
     Ok((Lock::begin(alloc, &place, tally)?, one, two))
 }
 
+// Both workers' work, each in a thread of its own.
+fn work_both<R: Threads + Wait + Sync>(
+    rt: &R,
+    lock: &Lock<Tally, Place>,
+    one: Pass<Counting>,
+    two: Pass<Counting>,
+    first: &[u16],
+    second: &[u16],
+) -> (
+    (Pass<Counting>, Result<(), Full>),
+    (Pass<Counting>, Result<(), Full>),
+)
+    requires beside { IsOn lock.now.table.shared.key.spine one × IsOn lock.now.table.shared.key.spine two }
+    requires keeps { In (Name.Worker 1) (kept_by one) × In (Name.Worker 2) (kept_by two) }
+    ensures first { Works lock.now.table.shared.key 1 first.now one result.0.0 result.0.1 }
+    ensures second { Works lock.now.table.shared.key 2 second.now two result.1.0 result.1.1 }
+{
+    thread::join(
+        rt,
+        move || work(rt, lock, one, 1, first),
+        move || work(rt, lock, two, 2, second),
+    )
+}
+
 // The end of a run: the workers' passes and the counter's are joined.
 fn finish_all(tally: Tally, one: Pass<Counting>, two: Pass<Counting>) -> (Past<Counting>, u64)
     requires stands { Stands tally }
@@ -105,9 +107,13 @@ fn finish_all(tally: Tally, one: Pass<Counting>, two: Pass<Counting>) -> (Past<C
     ensures total { result.1 ≡ replay (chain counting (Name.Counter tally.number) (past_of result.0)) }
     ensures one { chain counting (Name.Worker 1) (past_of result.0) ≡ chain counting (Name.Worker 1) (seen_by one) }
     ensures two { chain counting (Name.Worker 2) (past_of result.0) ≡ chain counting (Name.Worker 2) (seen_by two) }
+    ensures first_full { IsFull 0 (seen_by one) → IsFull 0 (past_of result.0) }
+    ensures second_full { IsFull 0 (seen_by two) → IsFull 0 (past_of result.0) }
 {
     let Tally {
-        total, mut pass, ..
+        total,
+        mut pass,
+        ..
     } = tally;
     pass.join(one);
     pass.join(two);
@@ -115,12 +121,14 @@ fn finish_all(tally: Tally, one: Pass<Counting>, two: Pass<Counting>) -> (Past<C
 }
 
 /// Two workers add amounts to one counter, each in a thread of its own. The answer is the history, and the total.
+/// `NoMemory` comes before the threads start.
 pub fn run_both<R: Threads + Wait + Sync>(
     rt: &R,
     alloc: Global,
     first: &[u16],
     second: &[u16],
-) -> Result<(Past<Counting>, u64), Refused>
+) -> Result<(Past<Counting>, u64), NoMemory>
+    requires { length first.now + length second.now < 281474976710656 }
     ensures rises { IfOk result (λ r. Rises 0 (past_of r.0)) }
     ensures legal { IfOk result (λ r. IsLegal (past_of r.0)) }
     ensures first { IfOk result (λ r. entries_by 1 (past_of r.0) ≡ entries_of 1 0 first.now) }
@@ -130,14 +138,14 @@ pub fn run_both<R: Threads + Wait + Sync>(
     ensures sum { IfOk result (λ r. r.1 ≡ sum first.now + sum second.now) }
 {
     let (counter, one, two) = begin_all(alloc)?;
-    let lock = &counter;
-    let ((one, first_done), (two, second_done)) = thread::join(
-        rt,
-        move || work(rt, lock, one, 1, first),
-        move || work(rt, lock, two, 2, second),
-    );
+    let ((one, first_done), (two, second_done)) = work_both(rt, &counter, one, two, first, second);
     let tally = counter.end(rt);
-    first_done?;
-    second_done?;
-    Ok(finish_all(tally, one, two))
+    let finished = finish_all(tally, one, two);
+    if first_done.is_err() {
+        unreachable!()
+    }
+    if second_done.is_err() {
+        unreachable!()
+    }
+    Ok(finished)
 }

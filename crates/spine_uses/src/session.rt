@@ -24,9 +24,9 @@ pub struct Session<'a, R: Wait> {
 }
 
 impl<'a, R: Wait> Session<'a, R> {
-    ghost use Rattle.std.specs.Prelude.{◌≡◌, ℕ, ◌≤◌, ◌++◌, IsTrue, IfOk, OnOk, OnErr, MatchResult};
-    ghost use Rattle.dm_spine.specs.Past.{In, chain, has};
-    ghost use Rattle.dm_spine.specs.Passes.{IsOn, IsBeside, seen_by, kept_by};
+    ghost use Rattle.std.specs.Prelude.{◌≡◌, ◌+◌, ◌≤◌, ◌++◌, OnOk, OnErr, MatchResult, length};
+    ghost use Rattle.dm_spine.specs.Past.{In, chain};
+    ghost use Rattle.dm_spine.specs.Passes.{IsOn, seen_by, kept_by};
     ghost use Rattle.spine_uses.specs.Counting.{counting, added};
     ghost use Rattle.spine_uses.specs.Tallies.{IsFull};
     ghost use Rattle.spine_uses.specs.Runs.{AddsOne, entries_by, entries_of};
@@ -69,6 +69,7 @@ impl<'a, R: Wait> Session<'a, R> {
         ensures same { (self.new.worker ≡ self.old.worker) × (self.new.lock.now ≡ self.old.lock.now) }
         ensures added { OnOk result (entries_by self.old.worker (seen_by self.new.pass) ≡ entries_by self.old.worker (seen_by self.old.pass) ++ entries_of self.old.worker self.old.lock.now.table.shared.key.number amounts.now) }
         ensures full { OnErr result (IsFull self.old.lock.now.table.shared.key.number (seen_by self.new.pass)) }
+        ensures few { length (entries_by self.old.worker (seen_by self.new.pass)) ≤ length (entries_by self.old.worker (seen_by self.old.pass)) + length amounts.now }
     {
         for amount in amounts {
             self.add(*amount)?;
@@ -82,7 +83,12 @@ impl<'a, R: Wait> Session<'a, R> {
         ensures beside { IsOn self.entry.lock.now.table.shared.key.spine result }
         ensures keeps { In (Name.Worker self.entry.worker) (kept_by result) }
     {
-        let Session { pass, rt: _, lock: _, worker: _ } = self;
+        let Session {
+            pass,
+            rt: _,
+            lock: _,
+            worker: _,
+        } = self;
         pass
     }
 }

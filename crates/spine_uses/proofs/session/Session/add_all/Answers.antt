@@ -1,9 +1,10 @@
-use Rattle.std.proofs.Common.{◌++◌, ℕ, refl, sym, ap, ◌∙◌, subst, append-nil}
+use Rattle.std.proofs.Common.{◌≡◌, ◌++◌, ℕ, map, refl, sym, ap, ◌∙◌, subst, append-nil}
 use Rattle.std.proofs.lemmas.List.{take_all}
 use Rattle.dm_spine.specs.Passes.{seen_by}
 use Rattle.spine_uses.specs.Tallies.{IsFull}
 use Rattle.spine_uses.specs.Runs.{entries_by, entries_of}
-use Rattle.spine_uses.proofs.Sessions.{entries_step, on_err}
+use Rattle.spine_uses.specs.declared.counting.Added.{Added}
+use Rattle.spine_uses.proofs.Sessions.{entries_step, entries_few, on_err}
 use Rattle.spine_uses.proofs.session.Session.add_all.Goals as goal
 
 pub loop-amount-init : goal.loop-amount-init
@@ -32,3 +33,16 @@ pub returns-in_err-add-clause-full : goal.returns-in_err-add-clause-full
 returns-in_err-add-clause-full g c =
     let F : ℕ → Type 0 = λ n. IsFull n (seen_by c.add.new.self.pass) in
     on_err c.from_residual.result (subst F (ap (λ t. t.table.shared.key.number) c.loop-amount.invariant.1) c.in_err-add.ensures.added.0)
+
+pub returns-clause-few : goal.returns-clause-few
+returns-clause-few g c =
+    let me = c.args.self.now in
+    entries_few me.worker me.lock.now.table.shared.key.number c.loop-amount.amount-index c.args.amounts.now (seen_by me.pass) (seen_by c.loop-amount.self.pass) c.loop-amount.invariant.2 c.loop-amount.auto.amount-index-end
+
+pub returns-in_err-add-clause-few : goal.returns-in_err-add-clause-few
+returns-in_err-add-clause-few g c =
+    let me = c.args.self.now in
+    let l = c.loop-amount.self in
+    let E : ℕ → Type 0 = λ w. entries_by w (seen_by c.add.new.self.pass) ≡ entries_by w (seen_by l.pass) in
+    let same : entries_by me.worker (seen_by c.add.new.self.pass) ≡ entries_by me.worker (seen_by l.pass) = subst E c.loop-amount.invariant.0 (ap (λ xs. map (λ (a : ℕ × Added). a.1) xs) c.in_err-add.ensures.added.1) in
+    entries_few me.worker me.lock.now.table.shared.key.number c.loop-amount.amount-index c.args.amounts.now (seen_by me.pass) (seen_by c.add.new.self.pass) (same ∙ c.loop-amount.invariant.2) c.loop-amount.auto.amount-index-end

@@ -25,9 +25,11 @@ give-requires-2-clause-keeps c =
 pub returns-clause-stands : goal.returns-clause-stands
 returns-clause-stands c =
     let t = c.enter-entered.new.self in
-    let back = c.give-2.ensures.gives in
-    (stands_said t.number c.args.self.now.number t.total t.count c.give-2.new.other (seen_by c.enter-entered.new.me) c.enter-entered.ensures.same.1 c.requires.stands.known
-      (given_name lawful_counting back) (given_chain lawful_counting back) c.enter-entered.ensures.sums, c.enter-entered.ensures.same.1)
+    let back = c.give-2.ensures.gives in (
+      stands_said t.number c.args.self.now.number t.total t.count c.give-2.new.other (seen_by c.enter-entered.new.me) c.enter-entered.ensures.same.1 c.requires.stands.known
+          (given_name lawful_counting back) (given_chain lawful_counting back) c.enter-entered.ensures.sums,
+      c.enter-entered.ensures.same.1,
+    )
 
 pub returns-clause-keeps : goal.returns-clause-keeps
 returns-clause-keeps c =
@@ -43,4 +45,4 @@ returns-clause-added c =
     let t = c.enter-entered.new.self in
     let P : ℕ → Type 0 = λ n. t.total ≡ replay (chain counting (Counter n) (seen_by c.enter-entered.new.me)) in
     adds_said c.args.self.now.number c.args.worker c.args.amount t.total c.give.ensures.gives c.give-2.ensures.gives c.enter-entered.result c.enter-entered.ensures.entered c.enter-entered.ensures.full c.requires.keeps
-      (subst P c.enter-entered.ensures.same.1 c.enter-entered.ensures.sums.replayed)
+    (subst P c.enter-entered.ensures.same.1 c.enter-entered.ensures.sums.replayed)

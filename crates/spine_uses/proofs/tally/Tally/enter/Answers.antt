@@ -1,6 +1,5 @@
-use Rattle.std.proofs.Common.{◌≡◌, ◌+◌, ◌<◌, rules, sym, ap, subst, arith}
+use Rattle.std.proofs.Common.{ap, arith}
 use Rattle.dm_spine.specs.Passes.{parts_of, view_of, seen_by}
-use Rattle.spine_uses.specs.Tallies.{Totals}
 use Rattle.spine_uses.proofs.Additions.{may_add, totals_more}
 use Rattle.spine_uses.proofs.tally.Tally.enter.Goals as goal
 
