@@ -1,5 +1,5 @@
 -- What each call of a group comes to.
-use Rattle.std.specs.Prelude.{ℕ, ◌+◌, ◌-◌, Bool, true, false, cond, ◌&&◌, Option, None, Some, is_some, List, [], ◌∷◌, take, drop, nat_eq, nat_lt}
+use Rattle.std.specs.Prelude.{ℕ, ◌+◌, ◌-◌, Bool, true, false, cond, ◌&&◌, Option, None, Some, is_some, List, [], ◌∷◌, take, drop, nat_eq, nat_lt, nat_le, length}
 use Rattle.std.specs.List.{list_any}
 use Rattle.std.specs.FinMap as map
 use Rattle.dm_base.specs.declared.error.GroupError.TheVariants as error
@@ -28,8 +28,9 @@ use Rattle.dm_machine.specs.declared.state.Side.{Side}
 use Rattle.dm_machine.specs.declared.state.Worker.{Worker}
 use Rattle.dm_machine.specs.declared.state.WrittenZone.{WrittenZone}
 use Rattle.dm_tables.specs.Rows.{any}
-use Rattle.dm_rules.specs.Plan.{greater, rooms, pieces_of, all_chunks}
-use Rattle.dm_rules.specs.Zone.{chunk_header, cut, unsealed, zone}
+use Rattle.dm_rules.specs.Numbers.{greater, narrowed}
+use Rattle.dm_rules.specs.Plan.{rooms, pieces_of, all_chunks}
+use Rattle.dm_rules.specs.Zone.{chunk_header, chunk_count, cut, unsealed, zone}
 use Rattle.dm_state.specs.Tables.{Numbered}
 use Rattle.dm_state.specs.Limits.{volumes_limit}
 use Rattle.dm_machine.specs.Volumes.{same_text, spaces, all_volumes, is_configured, least_missing, free_slot, epoch_or, mount_refusals, chunk_at}
@@ -125,8 +126,8 @@ reserve g s b len n =
       own = (is_none (map.get group.tables.bitfiles b.0), 11) ∷ [];
       token = (may_reserve (map.get s.copies b.0) len, 11) ∷ [];
       making = (is_none (map.get group.reservations n), 2) ∷ [];
-      refusals = (nat_lt (rooms (spaces group)) len, answer.GroupRefused (error.NoRoom (rooms (spaces group)) len)) ∷ [];
-      opens = opening.Reservation g n (record { bfid = b; len = len; chunk = chunk; pieces = pieces });
+      refusals = (nat_lt (rooms (spaces group)) len, answer.GroupRefused (error.NoRoom (narrowed (rooms (spaces group))) len)) ∷ [];
+      opens = opening.Reservation g n (record { bfid = b; len = len; chunk = chunk; pieces = pieces; chunks = all_chunks chunk_header chunk pieces });
     }
 
 -- the piece at a place of a list
@@ -179,9 +180,15 @@ abbrev pub zone_of : ℕ → List ℕ → Reserved → Piece → List ℕ
 zone_of epoch bytes r p =
     zone epoch (cut unsealed r.bfid.0 r.len p.offset (take p.len (drop p.offset bytes)) r.chunk)
 
+-- the piece is a part of these bytes, and can be one zone
+abbrev pub is_part : List ℕ → Reserved → Piece → Bool
+is_part bytes r p =
+    nat_eq (length bytes) r.len && nat_lt 0 p.len && nat_le (p.offset + p.len) (length bytes)
+    && nat_lt 0 r.chunk && nat_lt (chunk_count r.chunk p.len) 4294967296
+
 abbrev pub is_zone_of : List ℕ → Reserved → Piece → Option WrittenZone → Bool
 is_zone_of bytes r p None = false
-is_zone_of bytes r p (Some w) = same_text w.zone (zone_of w.epoch bytes r p)
+is_zone_of bytes r p (Some w) = is_part bytes r p && same_text w.zone (zone_of w.epoch bytes r p)
 
 -- each piece, from the k-th on, was written last with its zone
 abbrev pub are_written : List ℕ → Reserved → Numbered WrittenZone → ℕ → List Piece → Bool
@@ -209,7 +216,7 @@ commit j g s n now (Some r) =
       token = (is_some copy, 14) ∷ (no_mounts (reservation_in copy), 14) ∷ [];
       lasting = (all_written (map.get j.daemon.contents r.bfid.0) r (reservation_in copy), 14) ∷ [];
       ends = ending.Reservation g n r.bfid;
-      payload = group_journalled g s.group now (step.Commit r.bfid r.len (all_chunks chunk_header r.chunk r.pieces));
+      payload = group_journalled g s.group now (step.Commit r.bfid r.len r.chunks);
     }
 
 abbrev pub abort : GroupId → Side → ℕ → Option Reserved → Plan

@@ -56,6 +56,15 @@ abbrev pub guards_of : Plan → Option Answer → List (Bool × ℕ)
 guards_of p None = needed p ++ p.making
 guards_of p (Some refusal) = needed p
 
+-- what an accepted call does; one that is refused does none of it
+abbrev pub if_accepted : {X : Type 0} → Option Answer → X → X → X
+if_accepted None nothing x = x
+if_accepted (Some refusal) nothing x = nothing
+
+abbrev pub answered : Option Answer → Answer → Answer
+answered None a = a
+answered (Some refusal) a = refusal
+
 -- the plan with its tests made
 abbrev pub prepared : Plan → Prepared
 prepared p =
@@ -65,10 +74,9 @@ prepared p =
       illegal_fault = lowest_false (needed p);
       heals = p.heals;
       component = p.component;
-      refusal = refusal;
       ends = p.ends;
-      payload = p.payload;
-      mark = p.mark;
-      opens = p.opens;
-      answer = p.answer;
+      payload = if_accepted refusal None p.payload;
+      mark = if_accepted refusal mark.Nothing p.mark;
+      opens = if_accepted refusal opening.Nothing p.opens;
+      answer = answered refusal p.answer;
     }

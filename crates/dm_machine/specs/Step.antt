@@ -33,27 +33,17 @@ plan j w (call.Daemon c) = daemon_plan j w c
 plan j w (call.Group g c) = group_plan j w g (map.get j.sides g.0) c
 plan j w (call.Volume g vsn c) = volume_plan w g vsn (map.get j.sides g.0) c
 
--- the state after the call: what it spends goes, and a step in doubt, if it heals; where it isn't refused, its step
--- is journalled, its mark is left and its token is made
-abbrev pub after : Joint → Prepared → Option Answer → Joint
-after j p (Some refusal) = healed (ended j p.ends) p.heals p.component
-after j p None = opened (marked (paid (healed (ended j p.ends) p.heals p.component) p.payload) p.mark) p.opens
-
-abbrev pub answered : Prepared → Option Answer → Answer
-answered p (Some refusal) = refusal
-answered p None = p.answer
+-- the state after the call: what it spends goes, and a step in doubt, if it heals; its step is journalled, its mark is
+-- left and its token is made
+abbrev pub after : Joint → Prepared → Joint
+after j p = opened (marked (paid (healed (ended j p.ends) p.heals p.component) p.payload) p.mark) p.opens
 
 abbrev pub checked : Option ℕ → Joint → Answer → Outcome
-checked None after answer = Stepped after answer
-checked (Some guard) after answer = Illegal guard
+checked None result answer = Stepped result answer
+checked (Some guard) result answer = Illegal guard
 
 abbrev pub called : Joint → Prepared → Outcome
-called j p = checked p.illegal (after j p p.refusal) (answered p p.refusal)
-
--- the step that a call which got so far leaves in doubt: the one that it would have journalled
-abbrev pub left_doubt : Bool → Option Answer → Option Payload → Option Payload
-left_doubt far (Some refusal) p = None
-left_doubt far None p = cond far p None
+called j p = checked p.illegal (after j p) p.answer
 
 abbrev pub doubted_if : Joint → Option Payload → Joint
 doubted_if j None = j
@@ -62,7 +52,7 @@ doubted_if j (Some p) = doubted j p
 -- the state after a call that failed: what it spends in every answer goes, its range of a volume is unknown, and its
 -- step may be in doubt; else an older doubt stays
 abbrev pub failed : Joint → Prepared → Bool → Joint
-failed j p far = doubted_if (spoiled (ended j p.ends) p.mark) (left_doubt far p.refusal p.payload)
+failed j p far = doubted_if (spoiled (ended j p.ends) p.mark) (cond far p.payload None)
 
 -- the step in doubt, as it would be journalled
 abbrev pub daemon_doubt : Option DaemonRecord → Option Payload

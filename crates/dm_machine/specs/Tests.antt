@@ -1,6 +1,6 @@
 -- Lists of tests: guards with their numbers, and refusals with their answers.
 use Rattle.std.specs.Prelude.{◌≡◌, ℕ, Bool, true, false, cond, Option, None, Some, List, [], ◌∷◌}
-use Rattle.dm_rules.specs.Plan.{lesser}
+use Rattle.dm_rules.specs.Numbers.{lesser}
 
 -- the lesser of a number and one that may be there
 abbrev pub least_of : ℕ → Option ℕ → ℕ

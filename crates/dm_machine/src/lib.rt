@@ -7,6 +7,7 @@
 
 mod answer;
 mod call;
+mod guards;
 mod plan;
 mod state;
 

@@ -102,7 +102,8 @@ pub enum Mark {
     },
 }
 
-/// A call that was looked at: its plan, with the tests of its guards and refusals made.
+/// A call that was looked at: its plan, with the tests of its guards and refusals made. Of one that is refused stay what
+/// it spends and the refusal, which is its answer.
 #[derive(Drop)]
 pub struct Prepared {
     /// The lowest guard that is false, if one is.
@@ -111,8 +112,6 @@ pub struct Prepared {
     pub illegal_fault: Option<u16>,
     pub heals: bool,
     pub component: Component,
-    /// The first refusal, if the call is refused.
-    pub refusal: Option<Answer>,
     pub ends: Ending,
     pub payload: Option<Payload>,
     pub mark: Mark,

@@ -46,6 +46,8 @@ pub struct Reserved {
     /// The length of the chunks.
     pub chunk: u64,
     pub pieces: Listed<Piece>,
+    /// The chunks of their zones, by ascending offset.
+    pub chunks: Listed<Chunk>,
 }
 
 /// A volume in a drive.

@@ -1,3 +1,4 @@
+pub mod Numbers
 pub mod Label
 pub mod Zone
 pub mod Room

@@ -4,6 +4,7 @@ use Rattle.std.specs.List.{flat_map}
 use Rattle.dm_base.specs.declared.serial.Vsn.{Vsn}
 use Rattle.dm_base.specs.declared.volume.Piece.{Piece}
 use Rattle.dm_base.specs.declared.volume.Chunk.{Chunk}
+use Rattle.dm_rules.specs.Numbers.{lesser}
 use Rattle.dm_rules.specs.Zone.{zone_header, zone_length, chunk_count}
 
 -- a volume that may take a piece: the place of its next zone, and the longest piece that this zone can hold
@@ -16,12 +17,6 @@ pub record Space : Type 0 where
 abbrev pub rooms : List Space → ℕ
 rooms [] = 0
 rooms (s ∷ rest) = s.room + rooms rest
-
-abbrev pub lesser : ℕ → ℕ → ℕ
-lesser m n = m - (m - n)
-
-abbrev pub greater : ℕ → ℕ → ℕ
-greater m n = m + (n - m)
 
 -- the pieces of the `left` bytes that stand at `offset` of a bitfile: each volume in turn takes as much as it
 -- has room for, or what is left; one that would take nothing is left out
