@@ -2,4 +2,3 @@ pub mod Changes
 pub mod Lists
 pub mod Ends
 pub mod Freed
-pub mod Fits

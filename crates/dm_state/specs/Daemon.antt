@@ -89,14 +89,6 @@ stepped t (Taken n bytes) = record t { inodes = adjust t.inodes n.0 (reformed (r
 abbrev pub landed : DaemonTables → DaemonRecord → DaemonTables
 landed t r = stepped (record t { time = r.time }) r.step
 
--- the counter can rise by one, where the step begins a put
-abbrev pub StepCounts : DaemonTables → DaemonStep → Type 0
-StepCounts t (BeginPut path b groups) = t.counter < 18446744073709551615
-StepCounts t _ = Unit {0}
-
-abbrev pub CounterFits : DaemonTables → DaemonRecord → Type 0
-CounterFits t r = StepCounts t r.step
-
 -- the tables of a site before the first step: no file, and puts count from `first`
 abbrev pub empty_tables : ℕ → ℕ → DaemonTables
 empty_tables site first = record {

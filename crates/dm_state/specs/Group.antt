@@ -37,17 +37,6 @@ group_stepped t (Commit b len chunks) = record t {
 abbrev pub group_landed : GroupTables → GroupRecord → GroupTables
 group_landed t r = group_stepped (record t { time = r.time }) r.step
 
--- each chunk ends at a place of 64 bits
-abbrev pub EndsFit : List Chunk → Type 0
-EndsFit chunks = All (λ c. c.place + c.len < 18446744073709551616) chunks
-
-abbrev pub StepFits : GroupStep → Type 0
-StepFits (Volume vsn slot size) = Unit {0}
-StepFits (Commit b len chunks) = EndsFit chunks
-
-abbrev pub ChunksFit : GroupRecord → Type 0
-ChunksFit r = StepFits r.step
-
 -- the tables of a group before the first step
 abbrev pub empty_group : GroupTables
 empty_group = record { time = record { 0 = 0 }; volumes = map.empty; bitfiles = map.empty }

@@ -5,7 +5,7 @@ ghost use Rattle.std.specs.FinMap as map;
 ghost use Rattle.dm_tables.specs.Rows.{adjust};
 ghost use Rattle.dm_state.specs.Inodes.{recalled, reformed};
 ghost use Rattle.dm_state.specs.Entries.{stored_by};
-ghost use Rattle.dm_state.specs.Daemon.{CounterFits, empty_tables, landed, with_inode as with_inode_of, number_or as number_or_of, put_begun as put_begun_of, file_written as file_written_of, file_removed as file_removed_of, put_begun_at, put_over as put_over_of, file_released as file_released_of};
+ghost use Rattle.dm_state.specs.Daemon.{empty_tables, landed, with_inode as with_inode_of, number_or as number_or_of, put_begun as put_begun_of, file_written as file_written_of, file_removed as file_removed_of, put_begun_at, put_over as put_over_of, file_released as file_released_of};
 
 use crate::daemon::{Contents, DaemonRecord, DaemonStep, DaemonTables, Entry, Inode};
 use crate::{entries, inodes};
@@ -32,7 +32,6 @@ impl DaemonTables {
     /// The tables after the record: its time, and then its step. Each is done, whether it may be or not: whether it may
     /// be is for the caller to ask.
     pub fn applied(mut self, alloc: Global, next: &DaemonRecord) -> Result<DaemonTables, NoMemory>
-        requires { CounterFits self next.now }
         ensures { IfOk result (λ t. t ≡ landed self next.now) }
     {
         self.time = next.time;
@@ -108,7 +107,6 @@ impl DaemonTables {
         bfid: Bfid,
         groups: &Listed<GroupId>,
     ) -> Result<DaemonTables, NoMemory>
-        requires { self.counter < 18446744073709551615 }
         ensures { IfOk result (λ t. t ≡ put_begun_at self bfid groups.now (map.get self.names path.now)) }
     {
         let Some(ino) = ino_of(&self.names, path) else {
@@ -125,7 +123,6 @@ impl DaemonTables {
         bfid: Bfid,
         groups: &Listed<GroupId>,
     ) -> Result<DaemonTables, NoMemory>
-        requires { self.counter < 18446744073709551615 }
         ensures { IfOk result (λ t. t ≡ put_begun_of self bfid groups.now ino.0 (map.get self.inodes ino.0)) }
     {
         let key = u128::from(ino.0);
@@ -144,7 +141,7 @@ impl DaemonTables {
         )?;
         entries::let_go_if(&mut self.entries, &self.inodes, self.time, named)?;
         self.entries.insert(bfid.0, entry)?;
-        self.counter += 1;
+        self.counter = self.counter.saturating_add(1);
         Ok(self)
     }
 

@@ -3,7 +3,7 @@
 ghost use Rattle.std.specs.Prelude.{◌≡◌, ◌<◌, ◌+◌, ◌^◌, IfOk};
 ghost use Rattle.std.specs.FinMap as map;
 ghost use Rattle.dm_tables.specs.Rows.{adjust};
-ghost use Rattle.dm_state.specs.Group.{ChunksFit, EndsFit, empty_group, ends_raised, group_landed, new_volume, written_to};
+ghost use Rattle.dm_state.specs.Group.{empty_group, ends_raised, group_landed, new_volume, written_to};
 
 use crate::group::{BitfileRow, GroupRecord, GroupStep, GroupTables, VolumeRow};
 use dm_base::{Bfid, Bytes, Chunk, Listed, NoMemory, Secs, Vsn};
@@ -26,7 +26,6 @@ impl GroupTables {
     /// The tables after the record: its time, and then its step. Each is done, whether it may be or not: whether it may
     /// be is for the caller to ask.
     pub fn applied(mut self, alloc: Global, next: &GroupRecord) -> Result<GroupTables, NoMemory>
-        requires { ChunksFit next.now }
         ensures { IfOk result (λ t. t ≡ group_landed self next.now) }
     {
         self.time = next.time;
@@ -59,7 +58,6 @@ impl GroupTables {
         len: u64,
         chunks: &Listed<Chunk>,
     ) -> Result<GroupTables, NoMemory>
-        requires { EndsFit chunks.now }
         ensures { IfOk result (λ t. t ≡ record self { volumes = ends_raised chunks.now self.volumes; bitfiles = map.insert self.bitfiles bfid.0 (record { len = len; chunks = chunks.now }) }) }
     {
         raise_ends(&mut self.volumes, chunks.as_slice());
@@ -84,7 +82,6 @@ fn labelled(slot: u8, size: u64) -> VolumeRow
 
 // Each chunk raises the end of its volume, where that is lower.
 fn raise_ends(volumes: &mut Texts<VolumeRow>, chunks: &[Chunk])
-    requires { EndsFit chunks.now }
     ensures { volumes.new ≡ ends_raised chunks.now volumes.old }
 {
     for chunk in chunks {
@@ -94,11 +91,10 @@ fn raise_ends(volumes: &mut Texts<VolumeRow>, chunks: &[Chunk])
 
 // The volume of the chunk is written up to behind it at least.
 fn raise_end(volumes: &mut Texts<VolumeRow>, chunk: Chunk)
-    requires { chunk.place + chunk.len < 2 ^ 64 }
     ensures { volumes.new ≡ adjust volumes.old chunk.vsn.0 (written_to chunk) }
 {
     if let Some(row) = volumes.get(&chunk.vsn.0).copied() {
-        let end = row.end.max(chunk.place + chunk.len);
+        let end = row.end.max(chunk.place.saturating_add(chunk.len));
         let _ = volumes.replace(&chunk.vsn.0, VolumeRow { end, ..row });
     }
 }

@@ -15,3 +15,6 @@ mod inodes;
 
 pub use daemon::{AskedCopy, Contents, DaemonRecord, DaemonStep, DaemonTables, Entry, Inode};
 pub use group::{BitfileRow, GroupRecord, GroupStep, GroupTables, VolumeRow};
+
+#[cfg(test)]
+mod tests;

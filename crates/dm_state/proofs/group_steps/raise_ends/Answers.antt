@@ -1,9 +1,6 @@
 use Rattle.dm_state.proofs.Ends.{raised_more, raised_all}
 use Rattle.dm_state.proofs.group_steps.raise_ends.Goals as goal
 
-pub raise_end-requires : goal.raise_end-requires
-raise_end-requires c = c.requires _ _ c.loop-chunk-test.true
-
 pub loop-chunk-preserved : goal.loop-chunk-preserved
 loop-chunk-preserved c = raised_more _ _ _ c.loop-chunk.volumes _ _ c.loop-chunk-test.true c.raise_end.ensures c.loop-chunk.invariant
 

@@ -1,4 +1,4 @@
-use Rattle.std.proofs.Common.{ap, sym, ◌∙◌}
+use Rattle.std.proofs.Common.{◌+◌, ap, sym, ◌∙◌}
 use Rattle.std.specs.FinMap.{get, insert}
 use Rattle.dm_state.specs.declared.daemon.Contents.{Contents}
 use Rattle.dm_state.specs.declared.daemon.DaemonTables.{DaemonTables}
@@ -8,6 +8,7 @@ use Rattle.dm_state.specs.Entries.{new_entry}
 use Rattle.dm_state.specs.Daemon.{put_begun}
 use Rattle.dm_tables.proofs.Orders.{numbers}
 use Rattle.dm_tables.proofs.Rows.{insert-remove, remove-none}
+use Rattle.dm_state.proofs.Ends.{narrow_min}
 use Rattle.dm_state.proofs.Freed.{begun}
 use Rattle.dm_state.proofs.daemon.DaemonTables.inode_put.Goals as goal
 
@@ -20,7 +21,7 @@ returns-in_default c =
 pub returns : goal.returns
 returns c =
     let formed : Contents → Inode = λ v. record { change = c.in-Some.inode.change; contents = v } in
-    begun c.args.self c.args.bfid c.args.groups.now c.args.ino.0 c.in-Some.inode _ _ _ _ _ (
+    begun c.args.self c.args.bfid c.args.groups.now c.args.ino.0 c.in-Some.inode _ _ _ _ _ _ (c.saturating_add.ensures ∙ narrow_min (c.args.self.counter + 1)) (
     c.in_ok-insert.ensures.ok
     ∙ ap (λ m. insert m c.from-key.result (formed c.put_begun-contents.result)) c.remove.ensures.removed
     ∙ insert-remove numbers c.args.self.inodes c.from-key.result (formed c.put_begun-contents.result)

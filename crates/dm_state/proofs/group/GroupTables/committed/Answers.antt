@@ -1,15 +1,12 @@
-use Rattle.std.proofs.Common.{List, ap, sym, subst, ◌∙◌}
+use Rattle.std.proofs.Common.{List, ap, ◌∙◌}
 use Rattle.std.specs.FinMap.{insert}
 use Rattle.dm_base.specs.declared.volume.Chunk.{Chunk}
 use Rattle.dm_state.specs.declared.group.BitfileRow.{BitfileRow}
 use Rattle.dm_state.specs.declared.group.GroupTables.{GroupTables}
 use Rattle.dm_state.specs.declared.group.VolumeRow.{VolumeRow}
 use Rattle.dm_state.specs.Tables.{Numbered, Named}
-use Rattle.dm_state.specs.Group.{EndsFit, ends_raised}
+use Rattle.dm_state.specs.Group.{ends_raised}
 use Rattle.dm_state.proofs.group.GroupTables.committed.Goals as goal
-
-pub raise_ends-requires : goal.raise_ends-requires
-raise_ends-requires c = subst EndsFit (sym c.as_slice.ensures) c.requires
 
 pub returns : goal.returns
 returns c =
