@@ -40,12 +40,12 @@ module _ {p : Counting} {v w z : View Added Name} (e : z ≡ joined v w) (t : To
   -- a counter that was full in either past is full in both together
   pub mine_full : (number : ℕ) → IsFull number v.seen → IsFull number z.seen
   mine_full number h =
-      let rest = chain_begins counting (Counter number) v.seen (union v.seen w.seen) t.sound.rises t.left_part in
+      let rest = chain_begins counting (Counter number) v.seen (union v.seen w.seen) t.left_part in
       full_more number v.seen (union v.seen w.seen) z.seen rest.0 (ap (λ (u : View Added Name). u.seen) e) rest.1 h
 
   pub theirs_full : (number : ℕ) → IsFull number w.seen → IsFull number z.seen
   theirs_full number h =
-      let rest = chain_begins counting (Counter number) w.seen (union v.seen w.seen) t.sound.rises t.right_part in
+      let rest = chain_begins counting (Counter number) w.seen (union v.seen w.seen) t.right_part in
       full_more number w.seen (union v.seen w.seen) z.seen rest.0 (ap (λ (u : View Added Name). u.seen) e) rest.1 h
 
   pub mine_kept : (x : Name) → In x v.keeps → In x z.keeps
