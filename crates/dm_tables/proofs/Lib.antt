@@ -4,5 +4,6 @@ pub mod Entries
 pub mod Rows
 pub mod Adjusted
 pub mod Any
+pub mod Cursor
 pub mod Sums
 pub mod Ranges

@@ -28,6 +28,9 @@ fn keeps_rows_by_number(rt: HostRuntime) -> Result<(), Fail> {
         rows.push((*key, *value))?;
     }
     assert_eq!(rt; rows.as_slice(), [(10, 4), (20, 5)].as_slice());
+    assert!(rt; matches!(ages.first_after(None), Some((10, 4))));
+    assert!(rt; matches!(ages.first_after(Some(10)), Some((20, 5))));
+    assert!(rt; ages.first_after(Some(20)).is_none());
     Ok(())
 }
 
@@ -56,5 +59,13 @@ fn keeps_rows_by_text(rt: HostRuntime) -> Result<(), Fail> {
     assert_eq!(rt; rows[0].1, 3);
     assert_eq!(rt; rows[1].0, b"/a/c".as_slice());
     assert_eq!(rt; rows[1].1, 5);
+    let first = text(alloc, b"/a")?;
+    let Some((next, size)) = sizes.first_after(Some(&first)) else {
+        assert!(rt; false, "a row is left");
+        return Ok(());
+    };
+    assert_eq!(rt; next.as_slice(), b"/a/c".as_slice());
+    assert_eq!(rt; *size, 5);
+    assert!(rt; sizes.first_after(Some(next)).is_none());
     Ok(())
 }
