@@ -7,3 +7,4 @@ pub mod DaemonCalls
 pub mod GroupCalls
 pub mod VolumeCalls
 pub mod Step
+pub mod Begin

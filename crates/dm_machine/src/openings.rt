@@ -1,0 +1,206 @@
+//! What an accepted call makes.
+
+ghost use Rattle.std.specs.Prelude.{◌≡◌, IfOk};
+ghost use Rattle.std.specs.FinMap as map;
+ghost use Rattle.dm_rules.specs.Numbers.{narrowed};
+ghost use Rattle.dm_rules.specs.Plan.{zone_end as zone_end_of};
+ghost use Rattle.dm_rules.specs.Zone.{chunk_header};
+ghost use Rattle.dm_tables.specs.Rows.{adjust};
+ghost use Rattle.dm_machine.specs.Effects.{at_each, copy_opened, mount_opened as mount_opened_of, opened as opened_of, reservation_opened as reservation_opened_of, tips_moved as tips_moved_of, worker_or};
+
+use crate::plan::Opening;
+use crate::state::{
+    CopyReservation, CopyState, Joint, MountState, Mounted, Recall, Reserved, Side, Worker,
+};
+use crate::work;
+use dm_base::{Bfid, Bytes, GroupId, NoMemory, Piece};
+use dm_rules::{CHUNK_HEADER, ZONE_HEADER};
+use dm_tables::{Numbers, Texts};
+use std::alloc::Global;
+
+impl Joint {
+    /// The state with what the opening makes.
+    pub(crate) fn opened(mut self, alloc: Global, opening: Opening) -> Result<Joint, NoMemory>
+        ensures { IfOk result (λ j. j ≡ opened_of self opening) }
+    {
+        match opening {
+            Opening::Nothing => Ok(self),
+            Opening::Put {
+                number,
+                request,
+                len,
+                groups,
+            } => {
+                let bfid = request.bfid;
+                self.daemon.requests.insert(u128::from(number), request)?;
+                self.sides = copies_opened(self.sides, bfid, len, groups.as_slice())?;
+                Ok(self)
+            }
+            Opening::Recall {
+                worker,
+                number,
+                request,
+                recall,
+            } => {
+                self.daemon.requests.insert(u128::from(number), request)?;
+                self.workers = recall_opened(alloc, self.workers, u128::from(worker), number, recall)?;
+                Ok(self)
+            }
+            Opening::Reservation {
+                group,
+                number,
+                reserved,
+            } => {
+                let key = u128::from(group.0);
+                let Some(side) = self.sides.remove(key) else {
+                    return Ok(self);
+                };
+                self.sides
+                    .insert(key, side.reservation_opened(alloc, number, reserved)?)?;
+                Ok(self)
+            }
+            Opening::Mount {
+                group,
+                number,
+                mount,
+            } => {
+                let key = u128::from(group.0);
+                let Some(side) = self.sides.remove(key) else {
+                    return Ok(self);
+                };
+                self.sides.insert(key, side.mount_opened(number, mount)?)?;
+                Ok(self)
+            }
+        }
+    }
+}
+
+// A copy of the bitfile is begun in each of the groups.
+fn copies_opened(
+    sides: Numbers<Side>,
+    bfid: Bfid,
+    len: u64,
+    groups: &[GroupId],
+) -> Result<Numbers<Side>, NoMemory>
+    ensures { IfOk result (λ t. t ≡ at_each (copy_opened bfid.0 len) groups.now sides) }
+{
+    match groups {
+        [] => Ok(sides),
+        [group, rest @ ..] => {
+            let sides = copy_begun(sides, u128::from(group.0), bfid, len)?;
+            copies_opened(sides, bfid, len, rest)
+        }
+    }
+}
+
+fn copy_begun(
+    mut sides: Numbers<Side>,
+    group: u128,
+    bfid: Bfid,
+    len: u64,
+) -> Result<Numbers<Side>, NoMemory>
+    ensures { IfOk result (λ t. t ≡ adjust sides group (copy_opened bfid.0 len)) }
+{
+    if let Some(mut side) = sides.remove(group) {
+        let copy = CopyState {
+            len,
+            reservation: None,
+        };
+        side.copies.insert(bfid.0, copy)?;
+        sides.insert(group, side)?;
+    }
+    Ok(sides)
+}
+
+// The worker, which may be a new one, has the recall.
+fn recall_opened(
+    alloc: Global,
+    mut workers: Numbers<Worker>,
+    worker: u128,
+    number: u64,
+    recall: Recall,
+) -> Result<Numbers<Worker>, NoMemory>
+    ensures { IfOk result (λ t. t ≡ map.insert workers worker (record { recalls = map.insert (worker_or (map.get workers worker)).recalls number recall })) }
+{
+    let mut state = match workers.remove(worker) {
+        Some(state) => state,
+        None => Worker {
+            recalls: Numbers::empty(alloc),
+        },
+    };
+    state.recalls.insert(u128::from(number), recall)?;
+    workers.insert(worker, state)?;
+    Ok(workers)
+}
+
+impl Side {
+    fn reservation_opened(
+        mut self,
+        alloc: Global,
+        number: u64,
+        reserved: Reserved,
+    ) -> Result<Side, NoMemory>
+        ensures { IfOk result (λ s. s ≡ reservation_opened_of number reserved self) }
+    {
+        let reservation = CopyReservation {
+            number,
+            mounts: Numbers::empty(alloc),
+            written: Numbers::empty(alloc),
+        };
+        self.copies = work::reserved(self.copies, reserved.bfid.0, Some(reservation))?;
+        self.group.tips = tips_moved(
+            alloc,
+            self.group.tips,
+            reserved.chunk,
+            reserved.pieces.as_slice(),
+        )?;
+        self.group
+            .reservations
+            .insert(u128::from(number), reserved)?;
+        Ok(self)
+    }
+
+    fn mount_opened(mut self, number: u64, mount: MountState) -> Result<Side, NoMemory>
+        ensures { IfOk result (λ s. s ≡ mount_opened_of number mount self) }
+    {
+        let mounted = Mounted {
+            vsn: mount.vsn,
+            epoch: mount.epoch,
+        };
+        self.group.mounts.insert(u128::from(number), mounted)?;
+        self.copies = work::mounted(self.copies, number, mount.origin)?;
+        self.mounts.insert(u128::from(number), mount)?;
+        Ok(self)
+    }
+}
+
+// Each piece moves the tip of its volume behind its zone.
+fn tips_moved(
+    alloc: Global,
+    mut tips: Texts<u64>,
+    chunk: u64,
+    pieces: &[Piece],
+) -> Result<Texts<u64>, NoMemory>
+    ensures { IfOk result (λ t. t ≡ tips_moved_of chunk pieces.now tips) }
+{
+    match pieces {
+        [] => Ok(tips),
+        [piece, rest @ ..] => {
+            let name = Bytes::from_vec(Vec::from_slice(alloc, &piece.vsn.0)?);
+            tips.insert(name, zone_end(chunk, piece))?;
+            tips_moved(alloc, tips, chunk, rest)
+        }
+    }
+}
+
+// The place behind the zone of a piece.
+fn zone_end(chunk: u64, piece: &Piece) -> u64
+    ensures { result ≡ narrowed (zone_end_of chunk_header chunk piece.now) }
+{
+    let count = if chunk == 0 { 0 } else { piece.len.div_ceil(chunk) };
+    let end = u128::from(piece.zone)
+        + u128::from(ZONE_HEADER)
+        + u128::from(CHUNK_HEADER) * u128::from(count)
+        + u128::from(piece.len);
+    end.min(u128::from(u64::MAX)) as u64
+}
