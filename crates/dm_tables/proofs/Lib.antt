@@ -7,3 +7,5 @@ pub mod Any
 pub mod Cursor
 pub mod Sums
 pub mod Ranges
+pub mod Copies
+pub mod Loops

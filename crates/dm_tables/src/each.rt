@@ -5,7 +5,6 @@ ghost use Rattle.dm_tables.specs.Rows.{any as any_row, map_values};
 ghost use Rattle.dm_tables.specs.Totals.{total as total_of};
 
 use crate::numbers::Numbers;
-use crate::texts::Texts;
 use dm_base::NoMemory;
 use std::alloc::Global;
 
@@ -71,19 +70,5 @@ impl<V> Numbers<V> {
             sum += u128::from(weight.weigh(row));
         }
         sum
-    }
-}
-
-impl<V> Texts<V> {
-    /// Whether some row passes.
-    pub fn any<T: Test<V>>(&self, test: &T) -> bool
-        ensures { result ≡ any_row (λ _. T.passes test.now) self.now }
-    {
-        for (_, row) in self.entries() {
-            if test.test(row) {
-                return true;
-            }
-        }
-        false
     }
 }

@@ -5,8 +5,9 @@ ghost use Rattle.std.specs.List.{All};
 ghost use Rattle.std.specs.Option.{option_copied, option_map};
 ghost use Rattle.std.specs.FinMap as map;
 ghost use Rattle.std.specs.Map.Iter.{ShowsInOrder, deref_pair};
-ghost use Rattle.dm_tables.specs.Rows.{row_after};
+ghost use Rattle.dm_tables.specs.Rows.{any as any_row, row_after};
 
+use crate::each::Test;
 use dm_base::{Bytes, NoMemory};
 use std::alloc::Global;
 use std::cmp::Ordering;
@@ -132,6 +133,18 @@ impl<V> Texts<V> {
             Some((key, row)) => Some((key, row)),
             None => None,
         }
+    }
+
+    /// Whether some row passes.
+    pub fn any<T: Test<V>>(&self, test: &T) -> bool
+        ensures { result ≡ any_row (λ _. T.passes test.now) self.now }
+    {
+        for (_, row) in self.entries() {
+            if test.test(row) {
+                return true;
+            }
+        }
+        false
     }
 }
 
