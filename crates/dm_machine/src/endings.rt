@@ -65,10 +65,10 @@ fn copies_closed(
 fn copy_gone(mut sides: Numbers<Side>, group: u128, bfid: Bfid) -> Result<Numbers<Side>, NoMemory>
     ensures { IfOk result (λ t. t ≡ adjust sides group (copy_closed bfid.0)) }
 {
-    if let Some(mut side) = sides.remove(group) {
-        let _ = side.copies.remove(bfid.0);
-        sides.insert(group, side)?;
-    }
+    let Some(side) = sides.remove(group) else {
+        return Ok(sides);
+    };
+    sides.insert(group, side.without_copy(bfid))?;
     Ok(sides)
 }
 
@@ -79,11 +79,20 @@ fn recall_closed(
 ) -> Result<Numbers<Worker>, NoMemory>
     ensures { IfOk result (λ t. t ≡ adjust workers worker (λ x. record x { recalls = map.remove x.recalls request })) }
 {
-    if let Some(mut state) = workers.remove(worker) {
-        let _ = state.recalls.remove(u128::from(request));
-        workers.insert(worker, state)?;
-    }
+    let Some(state) = workers.remove(worker) else {
+        return Ok(workers);
+    };
+    workers.insert(worker, state.without_recall(request))?;
     Ok(workers)
+}
+
+impl Worker {
+    fn without_recall(mut self, request: u64) -> Worker
+        ensures { result ≡ record self { recalls = map.remove self.recalls request } }
+    {
+        let _ = self.recalls.remove(u128::from(request));
+        self
+    }
 }
 
 fn reservation_closed(
@@ -94,22 +103,31 @@ fn reservation_closed(
 ) -> Result<Numbers<Side>, NoMemory>
     ensures { IfOk result (λ t. t ≡ adjust sides group (reservation_closed_of number bfid.0)) }
 {
-    if let Some(side) = sides.remove(group) {
-        sides.insert(group, side.without_reservation(number, bfid)?)?;
-    }
+    let Some(side) = sides.remove(group) else {
+        return Ok(sides);
+    };
+    sides.insert(group, side.without_reservation(number, bfid)?)?;
     Ok(sides)
 }
 
 fn mount_closed(mut sides: Numbers<Side>, group: u128, number: u64) -> Result<Numbers<Side>, NoMemory>
     ensures { IfOk result (λ t. t ≡ adjust sides group (mount_closed_of number)) }
 {
-    if let Some(side) = sides.remove(group) {
-        sides.insert(group, side.without_mount(number)?)?;
-    }
+    let Some(side) = sides.remove(group) else {
+        return Ok(sides);
+    };
+    sides.insert(group, side.without_mount(number)?)?;
     Ok(sides)
 }
 
 impl Side {
+    fn without_copy(mut self, bfid: Bfid) -> Side
+        ensures { result ≡ copy_closed bfid.0 self }
+    {
+        let _ = self.copies.remove(bfid.0);
+        self
+    }
+
     fn without_reservation(mut self, number: u64, bfid: Bfid) -> Result<Side, NoMemory>
         ensures { IfOk result (λ s. s ≡ reservation_closed_of number bfid.0 self) }
     {
@@ -122,10 +140,12 @@ impl Side {
         ensures { IfOk result (λ s. s ≡ mount_closed_of number self) }
     {
         let _ = self.group.mounts.remove(u128::from(number));
-        let mount = self.mounts.remove(u128::from(number));
-        if let Some(mount) = mount {
-            self.copies = work::unmounted(self.copies, number, mount.origin)?;
+        match self.mounts.remove(u128::from(number)) {
+            Some(mount) => {
+                self.copies = work::unmounted(self.copies, number, mount.origin)?;
+                Ok(self)
+            }
+            None => Ok(self),
         }
-        Ok(self)
     }
 }

@@ -1,6 +1,6 @@
 //! What a call leaves of a volume and of the work on it.
 
-ghost use Rattle.std.specs.Prelude.{◌≡◌, ◌+◌, ◌<◌, ◌^◌, length, Some, IfOk, OnOk};
+ghost use Rattle.std.specs.Prelude.{◌≡◌, ◌+◌, ◌<◌, ◌^◌, length, None, Some, IfOk};
 ghost use Rattle.std.specs.FinMap as map;
 ghost use Rattle.dm_rules.specs.Known.{forgotten, written};
 ghost use Rattle.dm_tables.specs.Rows.{adjust, map_values};
@@ -10,7 +10,7 @@ use crate::plan::Mark;
 use crate::state::{Image, Joint, MountState, Recall, Side, Worker, WrittenZone};
 use crate::work;
 use dm_base::{Bfid, Bytes, GroupId, NoMemory, Vsn};
-use dm_tables::{Copied, Numbers};
+use dm_tables::{Copied, Numbers, Texts};
 use std::alloc::Global;
 
 impl Joint {
@@ -29,16 +29,15 @@ impl Joint {
                 index,
                 epoch,
             } => {
-                let key = u128::from(group.0);
-                let Some(side) = self.sides.remove(key) else {
-                    return Ok(self);
-                };
-                let side = side.image_written(alloc, *vsn, *place, zone.as_slice())?;
-                let zone = WrittenZone {
+                let piece = PieceWrite {
+                    vsn: *vsn,
+                    place: *place,
+                    zone,
+                    bfid: *bfid,
+                    index: *index,
                     epoch: *epoch,
-                    zone: zone.copied(alloc)?,
                 };
-                self.sides.insert(key, side.piece_written(*bfid, *index, zone)?)?;
+                self.sides = piece.marked(alloc, self.sides, u128::from(group.0))?;
                 Ok(self)
             }
             Mark::Label {
@@ -48,12 +47,13 @@ impl Joint {
                 epoch,
                 text,
             } => {
-                let key = u128::from(group.0);
-                let Some(side) = self.sides.remove(key) else {
-                    return Ok(self);
+                let write = LabelWrite {
+                    vsn: *vsn,
+                    mount: *mount,
+                    epoch: *epoch,
+                    text,
                 };
-                let side = side.image_written(alloc, *vsn, 0, text.as_slice())?;
-                self.sides.insert(key, side.mount_labelled(*mount, Some(*epoch))?)?;
+                self.sides = write.marked(alloc, self.sides, u128::from(group.0))?;
                 Ok(self)
             }
             Mark::Read {
@@ -63,18 +63,13 @@ impl Joint {
                 offset,
                 bytes,
             } => {
-                let key = u128::from(*worker);
-                let Some(state) = self.workers.remove(key) else {
-                    return Ok(self);
-                };
                 let read = Read {
                     bfid: *bfid,
                     group: *group,
                     offset: *offset,
                     bytes,
                 };
-                let recalls = read.noted(alloc, &state.recalls)?;
-                self.workers.insert(key, Worker { recalls })?;
+                self.workers = read.marked(alloc, self.workers, u128::from(*worker))?;
                 Ok(self)
             }
         }
@@ -93,33 +88,153 @@ impl Joint {
                 zone,
                 bfid,
                 index,
-                epoch: _,
+                epoch,
             } => {
-                let key = u128::from(group.0);
-                let Some(side) = self.sides.remove(key) else {
-                    return Ok(self);
+                let piece = PieceWrite {
+                    vsn: *vsn,
+                    place: *place,
+                    zone,
+                    bfid: *bfid,
+                    index: *index,
+                    epoch: *epoch,
                 };
-                let side = side.image_forgotten(alloc, *vsn, *place, zone.len())?;
-                self.sides.insert(key, side.piece_spoiled(*bfid, *index)?)?;
+                self.sides = piece.spoiled(alloc, self.sides, u128::from(group.0))?;
                 Ok(self)
             }
             Mark::Label {
                 group,
                 vsn,
                 mount,
-                epoch: _,
+                epoch,
                 text,
             } => {
-                let key = u128::from(group.0);
-                let Some(side) = self.sides.remove(key) else {
-                    return Ok(self);
+                let write = LabelWrite {
+                    vsn: *vsn,
+                    mount: *mount,
+                    epoch: *epoch,
+                    text,
                 };
-                let side = side.image_forgotten(alloc, *vsn, 0, text.len())?;
-                self.sides.insert(key, side.mount_labelled(*mount, None)?)?;
+                self.sides = write.spoiled(alloc, self.sides, u128::from(group.0))?;
                 Ok(self)
             }
             Mark::Read { .. } => Ok(self),
         }
+    }
+}
+
+// A write of the zone of a piece.
+#[derive(Drop)]
+struct PieceWrite<'a> {
+    vsn: Vsn,
+    place: u64,
+    zone: &'a Bytes,
+    bfid: Bfid,
+    index: u64,
+    epoch: u64,
+}
+
+impl PieceWrite<'_> {
+    fn marked(
+        &self,
+        alloc: Global,
+        mut sides: Numbers<Side>,
+        group: u128,
+    ) -> Result<Numbers<Side>, NoMemory>
+        ensures { IfOk result (λ t. t ≡ adjust sides group (λ s. piece_written self.now.bfid.0 self.now.index self.now.epoch self.now.zone.now (image_by self.now.vsn.0 (written self.now.place self.now.zone.now) s))) }
+    {
+        let Some(side) = sides.remove(group) else {
+            return Ok(sides);
+        };
+        sides.insert(group, self.marked_in(alloc, side)?)?;
+        Ok(sides)
+    }
+
+    fn marked_in(&self, alloc: Global, side: Side) -> Result<Side, NoMemory>
+        ensures { IfOk result (λ s. s ≡ piece_written self.now.bfid.0 self.now.index self.now.epoch self.now.zone.now (image_by self.now.vsn.0 (written self.now.place self.now.zone.now) side)) }
+    {
+        let side = side.image_written(alloc, self.vsn, self.place, self.zone.as_slice())?;
+        let zone = WrittenZone {
+            epoch: self.epoch,
+            zone: self.zone.copied(alloc)?,
+        };
+        side.piece_written(self.bfid, self.index, zone)
+    }
+
+    fn spoiled(
+        &self,
+        alloc: Global,
+        mut sides: Numbers<Side>,
+        group: u128,
+    ) -> Result<Numbers<Side>, NoMemory>
+        ensures { IfOk result (λ t. t ≡ adjust sides group (λ s. piece_spoiled self.now.bfid.0 self.now.index (image_by self.now.vsn.0 (forgotten self.now.place (length self.now.zone.now)) s))) }
+    {
+        let Some(side) = sides.remove(group) else {
+            return Ok(sides);
+        };
+        sides.insert(group, self.spoiled_in(alloc, side)?)?;
+        Ok(sides)
+    }
+
+    fn spoiled_in(&self, alloc: Global, side: Side) -> Result<Side, NoMemory>
+        ensures { IfOk result (λ s. s ≡ piece_spoiled self.now.bfid.0 self.now.index (image_by self.now.vsn.0 (forgotten self.now.place (length self.now.zone.now)) side)) }
+    {
+        let side = side.image_forgotten(alloc, self.vsn, self.place, self.zone.len())?;
+        side.piece_spoiled(self.bfid, self.index)
+    }
+}
+
+// A write of the label, under a mount.
+#[derive(Drop)]
+struct LabelWrite<'a> {
+    vsn: Vsn,
+    mount: u64,
+    epoch: u64,
+    text: &'a Bytes,
+}
+
+impl LabelWrite<'_> {
+    fn marked(
+        &self,
+        alloc: Global,
+        mut sides: Numbers<Side>,
+        group: u128,
+    ) -> Result<Numbers<Side>, NoMemory>
+        ensures { IfOk result (λ t. t ≡ adjust sides group (λ s. mount_labelled self.now.mount (Some self.now.epoch) (image_by self.now.vsn.0 (written 0 self.now.text.now) s))) }
+    {
+        let Some(side) = sides.remove(group) else {
+            return Ok(sides);
+        };
+        sides.insert(group, self.marked_in(alloc, side)?)?;
+        Ok(sides)
+    }
+
+    fn marked_in(&self, alloc: Global, side: Side) -> Result<Side, NoMemory>
+        ensures { IfOk result (λ s. s ≡ mount_labelled self.now.mount (Some self.now.epoch) (image_by self.now.vsn.0 (written 0 self.now.text.now) side)) }
+    {
+        let side = side.image_written(alloc, self.vsn, 0, self.text.as_slice())?;
+        side.mount_labelled(self.mount, Some(self.epoch))
+    }
+
+    fn spoiled(
+        &self,
+        alloc: Global,
+        mut sides: Numbers<Side>,
+        group: u128,
+    ) -> Result<Numbers<Side>, NoMemory>
+        ensures { IfOk result (λ t. t ≡ adjust sides group (λ s. mount_labelled self.now.mount None (image_by self.now.vsn.0 (forgotten 0 (length self.now.text.now)) s))) }
+    {
+        let Some(side) = sides.remove(group) else {
+            return Ok(sides);
+        };
+        sides.insert(group, self.spoiled_in(alloc, side)?)?;
+        Ok(sides)
+    }
+
+    fn spoiled_in(&self, alloc: Global, side: Side) -> Result<Side, NoMemory>
+        ensures { IfOk result (λ s. s ≡ mount_labelled self.now.mount None (image_by self.now.vsn.0 (forgotten 0 (length self.now.text.now)) side)) }
+    {
+        let side = side.image_forgotten(alloc, self.vsn, 0, self.text.len())?;
+        side.mount_labelled(self.mount, None)
     }
 }
 
@@ -134,13 +249,7 @@ impl Side {
     ) -> Result<Side, NoMemory>
         ensures { IfOk result (λ s. s ≡ image_by vsn.0 (written place bytes.now) self) }
     {
-        let Some(image) = self.images.remove(&vsn.0) else {
-            return Ok(self);
-        };
-        let name = Bytes::from_vec(Vec::from_slice(alloc, &vsn.0)?);
-        let Image { size, known } = image;
-        let known = with_bytes(known, place, bytes)?;
-        self.images.insert(name, Image { size, known })?;
+        self.images = image_written(alloc, self.images, vsn, place, bytes)?;
         Ok(self)
     }
 
@@ -154,13 +263,7 @@ impl Side {
     ) -> Result<Side, NoMemory>
         ensures { IfOk result (λ s. s ≡ image_by vsn.0 (forgotten place count) self) }
     {
-        let Some(image) = self.images.remove(&vsn.0) else {
-            return Ok(self);
-        };
-        let name = Bytes::from_vec(Vec::from_slice(alloc, &vsn.0)?);
-        let Image { size, known } = image;
-        let known = without_range(known, place, count);
-        self.images.insert(name, Image { size, known })?;
+        self.images = image_forgotten(alloc, self.images, vsn, place, count)?;
         Ok(self)
     }
 
@@ -186,11 +289,72 @@ impl Side {
     fn mount_labelled(mut self, mount: u64, labelled: Option<u64>) -> Result<Side, NoMemory>
         ensures { IfOk result (λ s. s ≡ mount_labelled mount labelled self) }
     {
-        let key = u128::from(mount);
-        if let Some(state) = self.mounts.remove(key) {
-            self.mounts.insert(key, MountState { labelled, ..state })?;
-        }
+        self.mounts = mount_labelled(self.mounts, u128::from(mount), labelled)?;
         Ok(self)
+    }
+}
+
+fn mount_labelled(
+    mut mounts: Numbers<MountState>,
+    mount: u128,
+    labelled: Option<u64>,
+) -> Result<Numbers<MountState>, NoMemory>
+    ensures { IfOk result (λ t. t ≡ adjust mounts mount (λ x. record x { labelled = labelled })) }
+{
+    let Some(state) = mounts.remove(mount) else {
+        return Ok(mounts);
+    };
+    mounts.insert(mount, MountState { labelled, ..state })?;
+    Ok(mounts)
+}
+
+fn image_written(
+    alloc: Global,
+    mut images: Texts<Image>,
+    vsn: Vsn,
+    place: u64,
+    bytes: &[u8],
+) -> Result<Texts<Image>, NoMemory>
+    ensures { IfOk result (λ t. t ≡ adjust images vsn.0 (λ i. record i { known = written place bytes.now i.known })) }
+{
+    let Some(image) = images.remove(&vsn.0) else {
+        return Ok(images);
+    };
+    let name = Bytes::from_vec(Vec::from_slice(alloc, &vsn.0)?);
+    images.insert(name, image.written(place, bytes)?)?;
+    Ok(images)
+}
+
+fn image_forgotten(
+    alloc: Global,
+    mut images: Texts<Image>,
+    vsn: Vsn,
+    place: u64,
+    count: usize,
+) -> Result<Texts<Image>, NoMemory>
+    ensures { IfOk result (λ t. t ≡ adjust images vsn.0 (λ i. record i { known = forgotten place count i.known })) }
+{
+    let Some(image) = images.remove(&vsn.0) else {
+        return Ok(images);
+    };
+    let name = Bytes::from_vec(Vec::from_slice(alloc, &vsn.0)?);
+    images.insert(name, image.forgotten(place, count))?;
+    Ok(images)
+}
+
+impl Image {
+    fn written(mut self, place: u64, bytes: &[u8]) -> Result<Image, NoMemory>
+        ensures { IfOk result (λ i. i ≡ record self { known = written place bytes.now self.known }) }
+    {
+        self.known = with_bytes(self.known, place, bytes)?;
+        Ok(self)
+    }
+
+    fn forgotten(mut self, place: u64, count: usize) -> Image
+        ensures { result ≡ record self { known = forgotten place count self.known } }
+    {
+        self.known = without_range(self.known, place, count);
+        self
     }
 }
 
@@ -217,6 +381,7 @@ fn without_range(mut known: Numbers<u8>, place: u64, count: usize) -> Numbers<u8
 }
 
 // Bytes of a bitfile that were read from a group's copy.
+#[derive(Drop)]
 struct Read<'a> {
     bfid: Bfid,
     group: GroupId,
@@ -225,6 +390,22 @@ struct Read<'a> {
 }
 
 impl Read<'_> {
+    fn marked(
+        &self,
+        alloc: Global,
+        mut workers: Numbers<Worker>,
+        worker: u128,
+    ) -> Result<Numbers<Worker>, NoMemory>
+        ensures { IfOk result (λ t. t ≡ adjust workers worker (λ x. record x { recalls = map_values (λ k. read_noted_of self.now.bfid.0 self.now.group.0 self.now.offset self.now.bytes.now) x.recalls })) }
+    {
+        let Some(state) = workers.remove(worker) else {
+            return Ok(workers);
+        };
+        let recalls = self.noted(alloc, &state.recalls)?;
+        workers.insert(worker, Worker { recalls })?;
+        Ok(workers)
+    }
+
     // The recalls, of which each one of the bitfile has the read.
     fn noted(&self, alloc: Global, recalls: &Numbers<Recall>) -> Result<Numbers<Recall>, NoMemory>
         ensures { IfOk result (λ t. t ≡ map_values (λ _. read_noted_of self.now.bfid.0 self.now.group.0 self.now.offset self.now.bytes.now) recalls.now) }
@@ -251,12 +432,18 @@ impl Read<'_> {
         ensures { IfOk result (λ r. r ≡ read_noted self.now.group.0 self.now.offset self.now.bytes.now recall) }
     {
         let key = u128::from(self.group.0);
-        let mut reads = match recall.reads.remove(key) {
-            Some(reads) => reads,
-            None => Numbers::empty(alloc),
-        };
+        let mut reads = reads_of(alloc, recall.reads.remove(key));
         reads.insert(u128::from(self.offset), self.bytes.copied(alloc)?)?;
         recall.reads.insert(key, reads)?;
         Ok(recall)
+    }
+}
+
+fn reads_of(alloc: Global, reads: Option<Numbers<Bytes>>) -> Numbers<Bytes>
+    ensures { result ≡ reads_or reads }
+{
+    match reads {
+        Some(reads) => reads,
+        None => Numbers::empty(alloc),
     }
 }

@@ -10,7 +10,7 @@ ghost use Rattle.dm_machine.specs.Effects.{at_each, copy_opened, mount_opened as
 
 use crate::plan::Opening;
 use crate::state::{
-    CopyReservation, CopyState, Joint, MountState, Mounted, Recall, Reserved, Side, Worker,
+    CopyReservation, CopyState, Group, Joint, MountState, Mounted, Recall, Reserved, Side, Worker,
 };
 use crate::work;
 use dm_base::{Bfid, Bytes, GroupId, NoMemory, Piece};
@@ -52,11 +52,7 @@ impl Joint {
                 reserved,
             } => {
                 let key = u128::from(group.0);
-                let Some(side) = self.sides.remove(key) else {
-                    return Ok(self);
-                };
-                self.sides
-                    .insert(key, side.reservation_opened(alloc, number, reserved)?)?;
+                self.sides = reservation_opened(alloc, self.sides, key, number, reserved)?;
                 Ok(self)
             }
             Opening::Mount {
@@ -64,11 +60,7 @@ impl Joint {
                 number,
                 mount,
             } => {
-                let key = u128::from(group.0);
-                let Some(side) = self.sides.remove(key) else {
-                    return Ok(self);
-                };
-                self.sides.insert(key, side.mount_opened(number, mount)?)?;
+                self.sides = mount_opened(self.sides, u128::from(group.0), number, mount)?;
                 Ok(self)
             }
         }
@@ -101,14 +93,10 @@ fn copy_begun(
 ) -> Result<Numbers<Side>, NoMemory>
     ensures { IfOk result (λ t. t ≡ adjust sides group (copy_opened bfid.0 len)) }
 {
-    if let Some(mut side) = sides.remove(group) {
-        let copy = CopyState {
-            len,
-            reservation: None,
-        };
-        side.copies.insert(bfid.0, copy)?;
-        sides.insert(group, side)?;
-    }
+    let Some(side) = sides.remove(group) else {
+        return Ok(sides);
+    };
+    sides.insert(group, side.with_copy(bfid, len)?)?;
     Ok(sides)
 }
 
@@ -122,18 +110,74 @@ fn recall_opened(
 ) -> Result<Numbers<Worker>, NoMemory>
     ensures { IfOk result (λ t. t ≡ map.insert workers worker (record { recalls = map.insert (worker_or (map.get workers worker)).recalls number recall })) }
 {
-    let mut state = match workers.remove(worker) {
-        Some(state) => state,
-        None => Worker {
-            recalls: Numbers::empty(alloc),
-        },
-    };
-    state.recalls.insert(u128::from(number), recall)?;
-    workers.insert(worker, state)?;
+    let state = worker_of(alloc, workers.remove(worker));
+    workers.insert(worker, state.with_recall(number, recall)?)?;
     Ok(workers)
 }
 
+fn worker_of(alloc: Global, worker: Option<Worker>) -> Worker
+    ensures { result ≡ worker_or worker }
+{
+    match worker {
+        Some(worker) => worker,
+        None => Worker {
+            recalls: Numbers::empty(alloc),
+        },
+    }
+}
+
+impl Worker {
+    fn with_recall(mut self, number: u64, recall: Recall) -> Result<Worker, NoMemory>
+        ensures { IfOk result (λ w. w ≡ record { recalls = map.insert self.recalls number recall }) }
+    {
+        self.recalls.insert(u128::from(number), recall)?;
+        Ok(self)
+    }
+}
+
+fn reservation_opened(
+    alloc: Global,
+    mut sides: Numbers<Side>,
+    group: u128,
+    number: u64,
+    reserved: Reserved,
+) -> Result<Numbers<Side>, NoMemory>
+    ensures { IfOk result (λ t. t ≡ adjust sides group (reservation_opened_of number reserved)) }
+{
+    let Some(side) = sides.remove(group) else {
+        return Ok(sides);
+    };
+    sides.insert(group, side.reservation_opened(alloc, number, reserved)?)?;
+    Ok(sides)
+}
+
+fn mount_opened(
+    mut sides: Numbers<Side>,
+    group: u128,
+    number: u64,
+    mount: MountState,
+) -> Result<Numbers<Side>, NoMemory>
+    ensures { IfOk result (λ t. t ≡ adjust sides group (mount_opened_of number mount)) }
+{
+    let Some(side) = sides.remove(group) else {
+        return Ok(sides);
+    };
+    sides.insert(group, side.mount_opened(number, mount)?)?;
+    Ok(sides)
+}
+
 impl Side {
+    fn with_copy(mut self, bfid: Bfid, len: u64) -> Result<Side, NoMemory>
+        ensures { IfOk result (λ s. s ≡ copy_opened bfid.0 len self) }
+    {
+        let copy = CopyState {
+            len,
+            reservation: None,
+        };
+        self.copies.insert(bfid.0, copy)?;
+        Ok(self)
+    }
+
     fn reservation_opened(
         mut self,
         alloc: Global,
@@ -148,15 +192,7 @@ impl Side {
             written: Numbers::empty(alloc),
         };
         self.copies = work::reserved(self.copies, reserved.bfid.0, Some(reservation))?;
-        self.group.tips = tips_moved(
-            alloc,
-            self.group.tips,
-            reserved.chunk,
-            reserved.pieces.as_slice(),
-        )?;
-        self.group
-            .reservations
-            .insert(u128::from(number), reserved)?;
+        self.group = self.group.reserved(alloc, number, reserved)?;
         Ok(self)
     }
 
@@ -170,6 +206,17 @@ impl Side {
         self.group.mounts.insert(u128::from(number), mounted)?;
         self.copies = work::mounted(self.copies, number, mount.origin)?;
         self.mounts.insert(u128::from(number), mount)?;
+        Ok(self)
+    }
+}
+
+impl Group {
+    // The group keeps the room.
+    fn reserved(mut self, alloc: Global, number: u64, reserved: Reserved) -> Result<Group, NoMemory>
+        ensures { IfOk result (λ g. g ≡ record self { reservations = map.insert self.reservations number reserved; tips = tips_moved_of reserved.chunk reserved.pieces self.tips }) }
+    {
+        self.tips = tips_moved(alloc, self.tips, reserved.chunk, reserved.pieces.as_slice())?;
+        self.reservations.insert(u128::from(number), reserved)?;
         Ok(self)
     }
 }

@@ -101,10 +101,10 @@ fn with_doubt(
 ) -> Result<Numbers<Side>, NoMemory>
     ensures { IfOk result (λ t. t ≡ adjust sides group (λ s. record s { group = record s.group { doubt = doubt } })) }
 {
-    if let Some(mut side) = sides.remove(group) {
-        side.group.doubt = doubt;
-        sides.insert(group, side)?;
-    }
+    let Some(side) = sides.remove(group) else {
+        return Ok(sides);
+    };
+    sides.insert(group, side.with_doubt(doubt))?;
     Ok(sides)
 }
 
@@ -112,19 +112,27 @@ fn group_landed(
     alloc: Global,
     mut sides: Numbers<Side>,
     group: u128,
-    record: &GroupRecord,
+    journalled: &GroupRecord,
 ) -> Result<Numbers<Side>, NoMemory>
-    ensures { IfOk result (λ t. t ≡ adjust sides group (λ s. record s { group = group_after record.now s.group })) }
+    ensures { IfOk result (λ t. t ≡ adjust sides group (λ s. record s { group = group_after journalled.now s.group })) }
 {
-    if let Some(side) = sides.remove(group) {
-        sides.insert(group, side.landed(alloc, record)?)?;
-    }
+    let Some(side) = sides.remove(group) else {
+        return Ok(sides);
+    };
+    sides.insert(group, side.landed(alloc, journalled)?)?;
     Ok(sides)
 }
 
 impl Side {
-    fn landed(self, alloc: Global, record: &GroupRecord) -> Result<Side, NoMemory>
-        ensures { IfOk result (λ s. s ≡ record self { group = group_after record.now self.group }) }
+    fn with_doubt(mut self, doubt: Option<GroupRecord>) -> Side
+        ensures { result ≡ record self { group = record self.group { doubt = doubt } } }
+    {
+        self.group.doubt = doubt;
+        self
+    }
+
+    fn landed(self, alloc: Global, journalled: &GroupRecord) -> Result<Side, NoMemory>
+        ensures { IfOk result (λ s. s ≡ record self { group = group_after journalled.now self.group }) }
     {
         let Side {
             group,
@@ -133,7 +141,7 @@ impl Side {
             mounts,
         } = self;
         Ok(Side {
-            group: group.landed(alloc, record)?,
+            group: group.landed(alloc, journalled)?,
             images,
             copies,
             mounts,
@@ -143,11 +151,11 @@ impl Side {
 
 impl Group {
     // The group after the record. A new volume is empty.
-    fn landed(mut self, alloc: Global, record: &GroupRecord) -> Result<Group, NoMemory>
-        ensures { IfOk result (λ g. g ≡ group_after record.now self) }
+    fn landed(mut self, alloc: Global, journalled: &GroupRecord) -> Result<Group, NoMemory>
+        ensures { IfOk result (λ g. g ≡ group_after journalled.now self) }
     {
-        self.tables = self.tables.applied(alloc, record)?;
-        match &record.step {
+        self.tables = self.tables.applied(alloc, journalled)?;
+        match &journalled.step {
             GroupStep::Volume { vsn, .. } => {
                 let name = Bytes::from_vec(Vec::from_slice(alloc, &vsn.0)?);
                 self.tips.insert(name, FIRST_ZONE)?;
@@ -162,6 +170,7 @@ impl Group {
 }
 
 // A change or a removal of the inode: a request on it keeps the number.
+#[derive(Drop)]
 struct Noted {
     ino: Ino,
     change: u64,
@@ -184,13 +193,13 @@ impl Change<OpenRequest> for Noted {
 
 impl Daemon {
     // The daemon after the record.
-    fn landed(self, alloc: Global, record: &DaemonRecord) -> Result<Daemon, NoMemory>
-        ensures { IfOk result (λ d. d ≡ daemon_landed record.now self) }
+    fn landed(self, alloc: Global, journalled: &DaemonRecord) -> Result<Daemon, NoMemory>
+        ensures { IfOk result (λ d. d ≡ daemon_landed journalled.now self) }
     {
         let mut daemon = self
-            .requests_noted(alloc, &record.step)?
-            .contents_kept(alloc, &record.step)?;
-        daemon.tables = daemon.tables.applied(alloc, record)?;
+            .requests_noted(alloc, &journalled.step)?
+            .contents_kept(alloc, &journalled.step)?;
+        daemon.tables = daemon.tables.applied(alloc, journalled)?;
         Ok(daemon)
     }
 

@@ -17,10 +17,10 @@ pub(crate) fn reserved(
 ) -> Result<Numbers<CopyState>, NoMemory>
     ensures { IfOk result (λ t. t ≡ adjust copies bfid (with_reservation reservation)) }
 {
-    if let Some(copy) = copies.remove(bfid) {
-        let len = copy.len;
-        copies.insert(bfid, CopyState { len, reservation })?;
-    }
+    let Some(copy) = copies.remove(bfid) else {
+        return Ok(copies);
+    };
+    copies.insert(bfid, copy.with_reservation(reservation))?;
     Ok(copies)
 }
 
@@ -61,9 +61,10 @@ fn without_mount(
 ) -> Result<Numbers<CopyState>, NoMemory>
     ensures { IfOk result (λ t. t ≡ adjust copies bfid (copy_by (λ r. record r { mounts = map.remove r.mounts mount }))) }
 {
-    if let Some(copy) = copies.remove(bfid) {
-        copies.insert(bfid, copy.without_mount(mount))?;
-    }
+    let Some(copy) = copies.remove(bfid) else {
+        return Ok(copies);
+    };
+    copies.insert(bfid, copy.without_mount(mount))?;
     Ok(copies)
 }
 
@@ -75,9 +76,10 @@ fn with_mount(
 ) -> Result<Numbers<CopyState>, NoMemory>
     ensures { IfOk result (λ t. t ≡ adjust copies bfid (copy_by (λ r. record r { mounts = map.insert r.mounts mount index }))) }
 {
-    if let Some(copy) = copies.remove(bfid) {
-        copies.insert(bfid, copy.with_mount(mount, index)?)?;
-    }
+    let Some(copy) = copies.remove(bfid) else {
+        return Ok(copies);
+    };
+    copies.insert(bfid, copy.with_mount(mount, index)?)?;
     Ok(copies)
 }
 
@@ -90,9 +92,10 @@ pub(crate) fn written(
 ) -> Result<Numbers<CopyState>, NoMemory>
     ensures { IfOk result (λ t. t ≡ adjust copies bfid (copy_by (λ r. record r { written = map.insert r.written index zone }))) }
 {
-    if let Some(copy) = copies.remove(bfid) {
-        copies.insert(bfid, copy.with_zone(index, zone)?)?;
-    }
+    let Some(copy) = copies.remove(bfid) else {
+        return Ok(copies);
+    };
+    copies.insert(bfid, copy.with_zone(index, zone)?)?;
     Ok(copies)
 }
 
@@ -104,13 +107,21 @@ pub(crate) fn spoiled(
 ) -> Result<Numbers<CopyState>, NoMemory>
     ensures { IfOk result (λ t. t ≡ adjust copies bfid (copy_by (λ r. record r { written = map.remove r.written index }))) }
 {
-    if let Some(copy) = copies.remove(bfid) {
-        copies.insert(bfid, copy.without_zone(index))?;
-    }
+    let Some(copy) = copies.remove(bfid) else {
+        return Ok(copies);
+    };
+    copies.insert(bfid, copy.without_zone(index))?;
     Ok(copies)
 }
 
 impl CopyState {
+    fn with_reservation(mut self, reservation: Option<CopyReservation>) -> CopyState
+        ensures { result ≡ with_reservation reservation self }
+    {
+        self.reservation = reservation;
+        self
+    }
+
     fn without_mount(self, mount: u64) -> CopyState
         ensures { result ≡ copy_by (λ r. record r { mounts = map.remove r.mounts mount }) self }
     {
