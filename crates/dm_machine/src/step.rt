@@ -1,8 +1,8 @@
 //! One event of the joint machine.
 
-ghost use Rattle.std.specs.Prelude.{◌≡◌, ℕ, Bool, ◌&&◌, cond, IfOk, IsErrOf, OnErr};
+ghost use Rattle.std.specs.Prelude.{◌≡◌, ℕ, Bool, ◌&&◌, Some, IfOk, IsErrOf, OnErr};
 ghost use Rattle.dm_machine.specs.Plan.{prepared};
-ghost use Rattle.dm_machine.specs.Step.{after as after_of, failed as failed_of, landed_of, plan, step as step_of};
+ghost use Rattle.dm_machine.specs.Step.{after as after_of, failed as failed_of, landed_doubt, landed_of, plan, step as step_of};
 ghost use Rattle.dm_machine.specs.Step.Outcome.{Illegal, Stepped};
 ghost use Rattle.dm_machine.specs.declared.call.Event.TheVariants as event;
 
@@ -160,8 +160,7 @@ impl Joint {
         let payload = Payload::Daemon {
             record: record.copied(alloc)?,
         };
-        let next = self.copied(alloc)?.undoubted(Component::Daemon)?;
-        Ok((next.paid(alloc, &Some(payload))?, Answer::Landed))
+        Ok(self.found(alloc, Component::Daemon, payload)?)
     }
 
     fn group_landed(&self, alloc: Global, group: GroupId) -> Result<(Joint, Answer), StepError>
@@ -178,7 +177,19 @@ impl Joint {
             group,
             record: record.copied(alloc)?,
         };
-        let next = self.copied(alloc)?.undoubted(Component::Group { group })?;
+        Ok(self.found(alloc, Component::Group { group }, payload)?)
+    }
+
+    // The state where the component's step is journalled, and is no more in doubt.
+    fn found(
+        &self,
+        alloc: Global,
+        component: Component,
+        payload: Payload,
+    ) -> Result<(Joint, Answer), NoMemory>
+        ensures { IfOk result (λ r. landed_doubt self.now component (Some payload) ≡ Stepped r.0 r.1) }
+    {
+        let next = self.copied(alloc)?.undoubted(component)?;
         Ok((next.paid(alloc, &Some(payload))?, Answer::Landed))
     }
 }
