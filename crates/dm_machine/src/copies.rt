@@ -36,7 +36,7 @@ impl Copied for Daemon {
             tables: self.tables.copied(alloc)?,
             requests: self.requests.copied(alloc)?,
             contents: self.contents.copied(alloc)?,
-            doubt: self.doubt.copied(alloc)?,
+            doubt: Copied::copied(&self.doubt, alloc)?,
         })
     }
 }
@@ -77,7 +77,7 @@ impl Copied for Group {
             reservations: self.reservations.copied(alloc)?,
             mounts: self.mounts.copied(alloc)?,
             committed: self.committed.copied(alloc)?,
-            doubt: self.doubt.copied(alloc)?,
+            doubt: Copied::copied(&self.doubt, alloc)?,
         })
     }
 }
@@ -114,7 +114,7 @@ impl Copied for CopyState {
     fn copied(&self, alloc: Global) -> Result<CopyState, NoMemory> {
         Ok(CopyState {
             len: self.len,
-            reservation: self.reservation.copied(alloc)?,
+            reservation: Copied::copied(&self.reservation, alloc)?,
         })
     }
 }

@@ -6,10 +6,18 @@
 #![tactic(auto)]
 
 mod answer;
+mod begin;
 mod call;
+mod copies;
+mod endings;
 mod guards;
+mod marks;
+mod openings;
+mod payloads;
 mod plan;
 mod state;
+mod step;
+mod work;
 
 pub use answer::Answer;
 pub use call::{Call, Component, DaemonCall, Event, GroupCall, VolumeCall};
@@ -18,3 +26,7 @@ pub use state::{
     CopyReservation, CopyState, Daemon, Group, Image, Joint, MountState, Mounted, OpenRequest,
     Origin, Recall, RequestKind, Reserved, Side, Worker, WrittenZone,
 };
+pub use step::StepError;
+
+#[cfg(test)]
+mod tests;

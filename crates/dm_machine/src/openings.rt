@@ -4,7 +4,7 @@ ghost use Rattle.std.specs.Prelude.{◌≡◌, IfOk};
 ghost use Rattle.std.specs.FinMap as map;
 ghost use Rattle.dm_rules.specs.Numbers.{narrowed};
 ghost use Rattle.dm_rules.specs.Plan.{zone_end as zone_end_of};
-ghost use Rattle.dm_rules.specs.Zone.{chunk_header};
+ghost use Rattle.dm_rules.specs.Zone.{chunk_count as chunk_count_of, chunk_header};
 ghost use Rattle.dm_tables.specs.Rows.{adjust};
 ghost use Rattle.dm_machine.specs.Effects.{at_each, copy_opened, mount_opened as mount_opened_of, opened as opened_of, reservation_opened as reservation_opened_of, tips_moved as tips_moved_of, worker_or};
 
@@ -244,10 +244,20 @@ fn tips_moved(
 fn zone_end(chunk: u64, piece: &Piece) -> u64
     ensures { result ≡ narrowed (zone_end_of chunk_header chunk piece.now) }
 {
-    let count = if chunk == 0 { 0 } else { piece.len.div_ceil(chunk) };
+    let count = chunk_count(chunk, piece.len);
     let end = u128::from(piece.zone)
         + u128::from(ZONE_HEADER)
         + u128::from(CHUNK_HEADER) * u128::from(count)
         + u128::from(piece.len);
     end.min(u128::from(u64::MAX)) as u64
+}
+
+// How many chunks hold so many bytes; one, where the chunks would have no byte.
+fn chunk_count(chunk: u64, len: u64) -> u64
+    ensures { result ≡ chunk_count_of chunk len }
+{
+    if chunk == 0 {
+        return 1.min(len);
+    }
+    len.div_ceil(chunk)
 }
