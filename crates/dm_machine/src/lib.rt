@@ -7,6 +7,8 @@
 
 mod answer;
 mod call;
+mod daemon_plans;
+mod files;
 mod guards;
 mod plan;
 mod state;
