@@ -1,14 +1,16 @@
 //! What each call of the daemon comes to.
 
 
-ghost use Rattle.std.specs.Prelude.{◌≡◌, ◌+◌, ◌^◌, ◌<◌, true, None, Some, IfOk, map};
+ghost use Rattle.std.specs.Prelude.{◌≡◌, ◌+◌, ◌-◌, ◌&&◌, not, cond, is_some, nat_eq, nat_lt, ◌^◌, ◌<◌, true, None, Some, IfOk, map};
+ghost use Rattle.std.specs.List.{list_all, list_any};
 ghost use Rattle.std.specs.FinMap as finmap;
 ghost use Rattle.std.specs.Option.{option_copied, option_map};
 ghost use Rattle.dm_rules.specs.Numbers.{narrowed as narrowed_of};
 ghost use Rattle.dm_machine.specs.Tests.{first_true};
-ghost use Rattle.dm_machine.specs.Files.{numbered, file_at};
+ghost use Rattle.dm_machine.specs.Files.{numbered, file_at, length_at as length_at_of};
 ghost use Rattle.dm_machine.specs.Plan.{prepared};
-ghost use Rattle.dm_machine.specs.DaemonCalls.{changes_used as changes_used_test, refused, time_at, journalled as journalled_by, daemon_plan, no_request as no_request_plan, no_file as no_file_plan, begin_put as begin_put_plan, copy_stored as copy_stored_plan, release as release_plan, begin_recall as begin_recall_plan, remove as remove_plan, attributes as attributes_plan};
+ghost use Rattle.dm_base.specs.declared.request.PutEnd.TheVariants as end;
+ghost use Rattle.dm_machine.specs.DaemonCalls.{changed_in, entry_asks, first_filled, too_full as too_full_test, is_whole as is_whole_of, differ as differ_of, are_configured as are_configured_of, is_filled as is_filled_of, is_reserved as is_reserved_of, has_committed as has_committed_of, recall_of as recall_of_worker, is_free as is_free_of, write as write_plan, end_put as end_put_plan, changes_used as changes_used_test, refused, time_at, journalled as journalled_by, daemon_plan, no_request as no_request_plan, no_file as no_file_plan, begin_put as begin_put_plan, copy_stored as copy_stored_plan, release as release_plan, begin_recall as begin_recall_plan, remove as remove_plan, attributes as attributes_plan};
 ghost use Rattle.dm_machine.specs.declared.call.Component.TheVariants as component;
 ghost use Rattle.dm_machine.specs.declared.plan.Ending.TheVariants as ending;
 ghost use Rattle.dm_machine.specs.declared.plan.Mark.TheVariants as mark;
@@ -19,13 +21,19 @@ use crate::call::{Component, DaemonCall};
 use crate::files;
 use crate::guards::lowest;
 use crate::plan::{Ending, Mark, Opening, Payload, Prepared};
-use crate::state::{Daemon, Joint, OpenRequest, Recall, RequestKind};
-use dm_base::{Bfid, Bytes, DaemonError, FileState, GroupId, Ino, NoMemory, Path, PutEnd, Secs};
-use dm_state::{Contents, DaemonRecord, DaemonStep, Inode};
+use crate::state::{Daemon, Joint, OpenRequest, Recall, RequestKind, Side};
+use dm_base::{Bfid, Bytes, DaemonError, GroupId, Ino, NoMemory, Path, PutEnd, Secs};
+use dm_state::{AskedCopy, DaemonRecord, DaemonStep, Entry, Inode};
+use dm_tables::Test;
 use std::alloc::Global;
 
 // The last change, and the last counter of a put.
 const LAST_NUMBER: u64 = 9_223_372_036_854_775_807;
+
+// The most bytes of a file, the most files and the most entries.
+const FILE_LIMIT: u64 = 16_777_216;
+const FILES_LIMIT: u64 = 65_536;
+const ENTRIES_LIMIT: u64 = 262_144;
 
 // The first error whose test is true.
 fn first_error(tests: &[(bool, DaemonError)]) -> Option<DaemonError>
@@ -59,16 +67,16 @@ fn answered(illegal: Option<u16>, ends: Ending, answer: Answer) -> Prepared
     }
 }
 
-// A call that may be made and is accepted, and that journals what is said.
-fn stepping(payload: Option<Payload>, answer: Answer) -> Prepared
-    ensures { result ≡ record { illegal = None; illegal_fault = None; heals = true; component = component.Daemon; ends = ending.Nothing; payload = payload; mark = mark.Nothing; opens = opening.Nothing; answer = answer } }
+// A call that was looked at, is accepted, and makes nothing: what it journals and what it spends.
+fn stepping(illegal: Option<u16>, ends: Ending, payload: Option<Payload>, answer: Answer) -> Prepared
+    ensures { result ≡ record { illegal = illegal; illegal_fault = illegal; heals = true; component = component.Daemon; ends = ends; payload = payload; mark = mark.Nothing; opens = opening.Nothing; answer = answer } }
 {
     Prepared {
-        illegal: None,
-        illegal_fault: None,
+        illegal,
+        illegal_fault: illegal,
         heals: true,
         component: Component::Daemon,
-        ends: Ending::Nothing,
+        ends,
         payload,
         mark: Mark::Nothing,
         opens: Opening::Nothing,
@@ -76,7 +84,37 @@ fn stepping(payload: Option<Payload>, answer: Answer) -> Prepared
     }
 }
 
-// A call that takes a request which isn't open.
+// A call that was looked at, is accepted, and makes a request.
+fn opening_with(illegal: Option<u16>, illegal_fault: Option<u16>, payload: Option<Payload>, opens: Opening, answer: Answer) -> Prepared
+    ensures { result ≡ record { illegal = illegal; illegal_fault = illegal_fault; heals = true; component = component.Daemon; ends = ending.Nothing; payload = payload; mark = mark.Nothing; opens = opens; answer = answer } }
+{
+    Prepared {
+        illegal,
+        illegal_fault,
+        heals: true,
+        component: Component::Daemon,
+        ends: Ending::Nothing,
+        payload,
+        mark: Mark::Nothing,
+        opens,
+        answer,
+    }
+}
+
+// A request that begins.
+fn request_of(ino: u64, bfid: Bfid, was: u64, kind: RequestKind) -> OpenRequest
+    ensures { result ≡ record { ino = record { 0 = ino }; bfid = bfid; was = was; found = None; kind = kind } }
+{
+    OpenRequest {
+        ino: Ino(ino),
+        bfid,
+        was,
+        found: None,
+        kind,
+    }
+}
+
+// A call that takes a request which isn't begun.
 fn no_request() -> Prepared
     ensures { result ≡ prepared no_request_plan }
 {
@@ -134,9 +172,225 @@ impl Daemon {
     {
         self.tables.change + 1
     }
+
+    // The files would have more bytes than the cap with this one of `need` bytes, whose present bytes don't count.
+    fn too_full(&self, file: Option<(u64, &Inode)>, need: u128) -> (bool, DaemonError)
+        ensures { (result.0, refused result.1) ≡ too_full_test self.now (option_map (λ f. numbered f.0 f.1.now) file.entry) need }
+    {
+        let have = less(self.size(), u128::from(length_at(file)));
+        let error = DaemonError::Full {
+            have: narrowed(have),
+            need: narrowed(need),
+            cap: self.cap,
+        };
+        (passes(have, need, u128::from(self.cap)), error)
+    }
+}
+
+// The length of a file, if it is there.
+fn length_at(file: Option<(u64, &Inode)>) -> u64
+    ensures { result ≡ length_at_of (option_map (λ f. numbered f.0 f.1.now) file.entry) }
+{
+    match file {
+        None => 0,
+        Some((_, inode)) => files::length(&inode.contents),
+    }
+}
+
+fn is_missing(file: Option<(u64, &Inode)>) -> bool
+    ensures { result ≡ not (is_some (option_map (λ f. numbered f.0 f.1.now) file.entry)) }
+{
+    match file {
+        None => true,
+        Some(_) => false,
+    }
+}
+
+// The one number less the other, or 0.
+fn less(size: u128, length: u128) -> u128
+    ensures { result ≡ size - length }
+{
+    if size < length {
+        return 0;
+    }
+    size - length
+}
+
+// Whether the sum passes the cap.
+fn passes(have: u128, need: u128, cap: u128) -> bool
+    ensures { result ≡ nat_lt cap (have + need) }
+{
+    if cap < need {
+        return true;
+    }
+    if cap - need < have {
+        return true;
+    }
+    false
+}
+
+// The number as 64 bits hold it.
+fn narrowed(number: u128) -> u64
+    ensures { result ≡ narrowed_of number }
+{
+    if number <= 18_446_744_073_709_551_615 {
+        return number as u64;
+    }
+    u64::MAX
+}
+
+// Whether the file of a request was changed since.
+fn changed(begun: &OpenRequest) -> Option<DaemonError>
+    ensures { option_map refused result ≡ first_true (changed_in begun.now) }
+{
+    match begun.found {
+        None => None,
+        Some(found) => Some(DaemonError::Changed {
+            was: begun.was,
+            found,
+        }),
+    }
+}
+
+// Whether the entry has every copy that was asked.
+fn is_whole(entry: Option<&Entry>) -> bool
+    ensures { result ≡ is_whole_of (option_copied entry.entry) }
+{
+    match entry {
+        None => false,
+        Some(entry) => is_stored(entry.copies.as_slice()),
+    }
+}
+
+fn is_stored(copies: &[AskedCopy]) -> bool
+    ensures { result ≡ list_all (λ c. c.stored) copies.now }
+{
+    copies.iter().all(|copy| copy.stored)
+}
+
+// Whether the group was asked for a copy, and has stored none.
+fn awaits(entry: Option<&Entry>, group: GroupId) -> bool
+    ensures { result ≡ entry_asks (option_copied entry.entry) group.0 }
+{
+    match entry {
+        None => false,
+        Some(entry) => {
+            let copies = entry.copies.as_slice();
+            asks(copies, group) && !has_stored(copies, group)
+        }
+    }
+}
+
+fn asks(copies: &[AskedCopy], group: GroupId) -> bool
+    ensures { result ≡ list_any (λ c. nat_eq c.group.0 group.0) copies.now }
+{
+    copies.iter().any(|copy| copy.group.0 == group.0)
+}
+
+fn has_stored(copies: &[AskedCopy], group: GroupId) -> bool
+    ensures { result ≡ list_any (λ c. nat_eq c.group.0 group.0 && c.stored) copies.now }
+{
+    copies
+        .iter()
+        .any(|copy| copy.group.0 == group.0 && copy.stored)
+}
+
+// How a put ends: with every copy stored, or not.
+fn end_of(dual: bool) -> PutEnd
+    ensures { result ≡ cond dual end.Dual end.Regular }
+{
+    if dual {
+        PutEnd::Dual
+    } else {
+        PutEnd::Regular
+    }
+}
+
+fn is_filled(place: Option<GroupId>) -> bool
+    ensures { result ≡ is_filled_of place }
+{
+    matches!(place, Some(_))
+}
+
+// Whether the groups differ: there is one, or there are two.
+fn differ(groups: &[GroupId]) -> bool
+    ensures { result ≡ differ_of groups.now }
+{
+    match groups {
+        [_] => true,
+        [first, second] => !(first.0 == second.0),
+        _ => false,
+    }
+}
+
+// The reservation of a copy of the bitfile.
+#[derive(Drop)]
+struct ReservedFor {
+    bfid: Bfid,
+}
+
+impl Test<Side> for ReservedFor {
+    ghost use Rattle.dm_machine.specs.DaemonCalls.{reserves};
+
+    ghost passes = { λ it side. reserves (finmap.get side.copies it.bfid.0) };
+
+    fn test(&self, side: &Side) -> bool {
+        match side.copies.get(self.bfid.0) {
+            None => false,
+            Some(copy) => copy.reservation.is_some(),
+        }
+    }
 }
 
 impl Joint {
+    // Whether a group keeps a reservation for a copy of the bitfile.
+    fn is_reserved(&self, bfid: Bfid) -> bool
+        ensures { result ≡ is_reserved_of self.now.sides bfid.0 }
+    {
+        self.sides.any(&ReservedFor { bfid })
+    }
+
+    // Whether the group has committed the bitfile.
+    fn has_committed(&self, group: GroupId, bfid: Bfid) -> bool
+        ensures { result ≡ has_committed_of (finmap.get self.now.sides group.0) bfid.0 }
+    {
+        match self.sides.get(u128::from(group.0)) {
+            None => false,
+            Some(side) => side.group.committed.contains(bfid.0),
+        }
+    }
+
+    // The open recall of the worker.
+    fn recall_of(&self, worker: u32, number: u64) -> Option<&Recall>
+        ensures { option_copied result ≡ recall_of_worker (finmap.get self.now.workers worker) number }
+    {
+        let worker = self.workers.get(u128::from(worker))?;
+        worker.recalls.get(u128::from(number))
+    }
+
+    // Whether no request has the number.
+    fn is_free(&self, number: u64) -> bool
+        ensures { result ≡ is_free_of self.now.daemon.requests number }
+    {
+        !self.daemon.requests.contains(u128::from(number))
+    }
+
+    // Whether the groups may be asked for copies.
+    fn may_ask(&self, asked: [Option<GroupId>; 2], groups: &[GroupId]) -> bool
+        ensures { result ≡ (first_filled asked && differ_of groups.now && are_configured_of self.now.sides groups.now) }
+    {
+        let [first, _second] = asked;
+        is_filled(first) && differ(groups) && self.are_configured(groups)
+    }
+
+    fn are_configured(&self, groups: &[GroupId]) -> bool
+        ensures { result ≡ are_configured_of self.now.sides groups.now }
+    {
+        groups
+            .iter()
+            .all(|group| self.sides.contains(u128::from(group.0)))
+    }
+
     fn release(&self, alloc: Global, path: &Path, now: Secs, file: Option<(u64, &Inode)>) -> Result<Prepared, NoMemory>
         ensures { IfOk result (λ p. p ≡ prepared (release_plan self.now path.now now.0 (option_map (λ f. numbered f.0 f.1.now) file.entry))) }
     {
@@ -151,7 +405,7 @@ impl Joint {
         let step = DaemonStep::Release {
             path: path.copied(alloc)?,
         };
-        Ok(stepping(self.daemon.journalled(now, step), Answer::Released))
+        Ok(stepping(None, Ending::Nothing, self.daemon.journalled(now, step), Answer::Released))
     }
 
     fn remove(&self, alloc: Global, path: &Path, now: Secs, file: Option<(u64, &Inode)>) -> Result<Prepared, NoMemory>
@@ -169,7 +423,7 @@ impl Joint {
             path: path.copied(alloc)?,
             change,
         };
-        Ok(stepping(self.daemon.journalled(now, step), Answer::Changed { change }))
+        Ok(stepping(None, Ending::Nothing, self.daemon.journalled(now, step), Answer::Changed { change }))
     }
 
     fn attributes(&self, alloc: Global, path: &Path, file: Option<(u64, &Inode)>) -> Result<Prepared, NoMemory>
@@ -180,5 +434,129 @@ impl Joint {
         };
         let row = self.daemon.row(path.copied(alloc)?, number, inode);
         Ok(answered(None, Ending::Nothing, Answer::File { row }))
+    }
+
+    fn write(&self, alloc: Global, path: &Path, bytes: &Bytes, now: Secs, file: Option<(u64, &Inode)>) -> Result<Prepared, NoMemory>
+        ensures { IfOk result (λ p. p ≡ prepared (write_plan self.now path.now bytes.now now.0 (option_map (λ f. numbered f.0 f.1.now) file.entry))) }
+    {
+        let tests = [
+            (
+                FILE_LIMIT < bytes.len() as u64,
+                DaemonError::TooMany { limit: FILE_LIMIT },
+            ),
+            (
+                is_missing(file) && FILES_LIMIT <= self.daemon.tables.names.len() as u64,
+                DaemonError::TooMany { limit: FILES_LIMIT },
+            ),
+            self.daemon.changes_used(),
+            self.daemon.too_full(file, bytes.len() as u128),
+        ];
+        if let Some(error) = first_error(&tests) {
+            return Ok(answered(None, Ending::Nothing, Answer::DaemonRefused { error }));
+        }
+        let change = self.daemon.next_change();
+        let step = DaemonStep::Write {
+            path: path.copied(alloc)?,
+            change,
+            bytes: bytes.copied(alloc)?,
+        };
+        Ok(stepping(None, Ending::Nothing, self.daemon.journalled(now, step), Answer::Changed { change }))
+    }
+
+    fn copy_stored(&self, group: GroupId, now: Secs, request: Option<OpenRequest>) -> Prepared
+        ensures { result ≡ prepared (copy_stored_plan self.now group now.0 request) }
+    {
+        let Some(begun) = request else {
+            return no_request();
+        };
+        let illegal = lowest(&[
+            (files::is_put(begun.kind), 5),
+            (awaits(self.daemon.tables.entries.get(begun.bfid.0), group), 5),
+            (self.has_committed(group, begun.bfid), 5),
+        ]);
+        if let Some(error) = changed(&begun) {
+            return answered(illegal, Ending::Nothing, Answer::DaemonRefused { error });
+        }
+        let step = DaemonStep::Stored {
+            bfid: begun.bfid,
+            group,
+        };
+        stepping(illegal, Ending::Nothing, self.daemon.journalled(now, step), Answer::CopyStored)
+    }
+
+    fn end_put(&self, alloc: Global, number: u64, now: Secs, request: Option<OpenRequest>) -> Result<Prepared, NoMemory>
+        ensures { IfOk result (λ p. p ≡ prepared (end_put_plan self.now number now.0 request)) }
+    {
+        let Some(begun) = request else {
+            return Ok(no_request());
+        };
+        let entry = self.daemon.tables.entries.get(begun.bfid.0);
+        let dual = is_whole(entry);
+        let ends = Ending::Put {
+            request: number,
+            bfid: begun.bfid,
+            groups: files::asked_by(alloc, entry)?,
+        };
+        let illegal = lowest(&[
+            (files::is_put(begun.kind), 6),
+            (!self.is_reserved(begun.bfid), 6),
+        ]);
+        if let Some(error) = changed(&begun) {
+            return Ok(answered(illegal, ends, Answer::DaemonRefused { error }));
+        }
+        let step = DaemonStep::EndPut {
+            ino: begun.ino,
+            bfid: begun.bfid,
+            dual,
+        };
+        Ok(stepping(illegal, ends, self.daemon.journalled(now, step), Answer::PutEnded { end: end_of(dual) }))
+    }
+
+    fn begin_put(&self, alloc: Global, path: &Path, asked: [Option<GroupId>; 2], now: Secs, number: u64, file: Option<(u64, &Inode)>) -> Result<Prepared, NoMemory>
+        ensures { IfOk result (λ p. p ≡ prepared (begin_put_plan self.now path.now asked now.0 number (option_map (λ f. numbered f.0 f.1.now) file.entry))) }
+    {
+        let groups = files::groups_of(alloc, asked)?;
+        let may_ask = self.may_ask(asked, groups.as_slice());
+        let illegal = lowest(&[(may_ask, 4)]);
+        let Some((ino, inode)) = file else {
+            let error = DaemonError::NoFile;
+            return Ok(answered(illegal, Ending::Nothing, Answer::DaemonRefused { error }));
+        };
+        let state = self.daemon.state(ino, inode);
+        let tests = [
+            (!files::is_regular(state), DaemonError::WrongState { found: state }),
+            (
+                ENTRIES_LIMIT <= self.daemon.tables.entries.len() as u64,
+                DaemonError::TooMany { limit: ENTRIES_LIMIT },
+            ),
+            (
+                LAST_NUMBER < self.daemon.tables.counter,
+                DaemonError::TooMany { limit: LAST_NUMBER },
+            ),
+        ];
+        if let Some(error) = first_error(&tests) {
+            return Ok(answered(illegal, Ending::Nothing, Answer::DaemonRefused { error }));
+        }
+        let bfid = Bfid::of(self.daemon.tables.site, self.daemon.tables.counter);
+        let bytes = files::online(alloc, &inode.contents)?;
+        let step = DaemonStep::BeginPut {
+            path: path.copied(alloc)?,
+            bfid,
+            groups: groups.copied(alloc)?,
+        };
+        let opens = Opening::Put {
+            number,
+            request: request_of(ino, bfid, inode.change, RequestKind::Put),
+            len: bytes.len() as u64,
+            groups,
+        };
+        let answer = Answer::PutBegun {
+            request: number,
+            bfid,
+            bytes,
+            change: inode.change,
+        };
+        let all = lowest(&[(may_ask, 4), (self.is_free(number), 2)]);
+        Ok(opening_with(all, illegal, self.daemon.journalled(now, step), opens, answer))
     }
 }

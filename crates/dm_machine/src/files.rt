@@ -1,14 +1,15 @@
 //! What the daemon tells of its files.
 
-ghost use Rattle.std.specs.Prelude.{◌≡◌, IfOk, map};
-ghost use Rattle.std.specs.Option.{option_copied, option_map};
+ghost use Rattle.std.specs.Prelude.{◌≡◌, Some, IfOk, map};
+ghost use Rattle.std.specs.Option.{option_copied, option_map, option_to_list};
 ghost use Rattle.dm_state.specs.Inodes.{length_of, bytes_online};
-ghost use Rattle.dm_machine.specs.Files.{numbered, file_at as file_at_of, is_put as is_put_of_kind, is_recall as is_recall_of_kind, has_open_put as has_open_put_of, has_open_recall as has_open_recall_of, state_of, is_regular as is_regular_of, is_dual as is_dual_of, is_away as is_away_of, bfid_shown as bfid_shown_of, row_of, groups_of as groups_in, asked_by as asked_by_entry};
+ghost use Rattle.dm_machine.specs.Files.{size_of, all_rows, row_if, file_named, numbered, file_at as file_at_of, is_put as is_put_of_kind, is_recall as is_recall_of_kind, has_open_put as has_open_put_of, has_open_recall as has_open_recall_of, state_of, is_regular as is_regular_of, is_dual as is_dual_of, is_away as is_away_of, bfid_shown as bfid_shown_of, row_of, groups_of as groups_in, asked_by as asked_by_entry};
 
-use crate::state::{Daemon, RequestKind};
-use dm_base::{Bfid, Bytes, FileRow, FileState, GroupId, Listed, NoMemory, Path};
+use crate::state::{Daemon, OpenRequest, RequestKind};
+use dm_base::{Bfid, Bytes, FileRow, FileState, GroupId, Ino, Listed, NoMemory, Path};
 use dm_state::{AskedCopy, Contents, Entry, Inode};
-use std::alloc::Global;
+use dm_tables::{Test, Weight};
+use std::alloc::{AllocError, Global};
 
 impl Daemon {
     // The file of a path: the number of its inode, and the inode.
@@ -24,14 +25,21 @@ impl Daemon {
     fn has_open_put(&self, bfid: Bfid) -> bool
         ensures { result ≡ has_open_put_of self.now.requests bfid.0 }
     {
-        false
+        self.requests.any(&PutOf { bfid })
     }
 
     // Whether a recall of the inode is open.
     fn has_open_recall(&self, number: u64) -> bool
         ensures { result ≡ has_open_recall_of self.now.requests number }
     {
-        false
+        self.requests.any(&RecallOn { number })
+    }
+
+    // The bytes of all files together, online or not.
+    pub(crate) fn size(&self) -> u128
+        ensures { result ≡ size_of self.now.tables.inodes }
+    {
+        self.tables.inodes.total(&FileLength)
     }
 
     // The state of the file with this inode.
@@ -58,6 +66,32 @@ impl Daemon {
         }
     }
 
+    // The rows of all files, by path.
+    pub(crate) fn rows(&self, alloc: Global) -> Result<Listed<FileRow>, NoMemory>
+        ensures { IfOk result (λ rows. rows ≡ all_rows self.now) }
+    {
+        let mut rows = Vec::new(alloc);
+        for (path, ino) in self.tables.names.entries() {
+            if let Some(row) = self.row_at(alloc, path, *ino)? {
+                rows.push(row)?;
+            }
+        }
+        Ok(Listed::from_vec(rows))
+    }
+
+    // The row of the file with this number, if it is there.
+    fn row_at(&self, alloc: Global, path: &Bytes, ino: Ino) -> Result<Option<FileRow>, NoMemory>
+        ensures { IfOk result (λ row. option_to_list row ≡ row_if self.now.requests path.now (file_named self.now.tables.inodes (Some ino))) }
+    {
+        match self.tables.inodes.get(u128::from(ino.0)) {
+            None => Ok(None),
+            Some(inode) => {
+                let path = named(alloc, path.as_slice())?;
+                Ok(Some(self.row(path, ino.0, inode)))
+            }
+        }
+    }
+
     // What a user is told of a file.
     pub(crate) fn row(&self, path: Path, number: u64, inode: &Inode) -> FileRow
         ensures { result ≡ row_of self.now.requests path (numbered number inode.now) }
@@ -73,7 +107,62 @@ impl Daemon {
     }
 }
 
+// Whether a request is a put of the bitfile.
+#[derive(Drop)]
+struct PutOf {
+    bfid: Bfid,
+}
+
+impl Test<OpenRequest> for PutOf {
+    ghost use Rattle.dm_machine.specs.Files.{is_put_of};
+
+    ghost passes = { λ it request. is_put_of it.bfid.0 request };
+
+    fn test(&self, request: &OpenRequest) -> bool {
+        is_put(request.kind) && request.bfid.0 == self.bfid.0
+    }
+}
+
+// Whether a request is a recall of the inode.
+#[derive(Drop)]
+struct RecallOn {
+    number: u64,
+}
+
+impl Test<OpenRequest> for RecallOn {
+    ghost use Rattle.dm_machine.specs.Files.{is_recall_on};
+
+    ghost passes = { λ it request. is_recall_on it.number request };
+
+    fn test(&self, request: &OpenRequest) -> bool {
+        is_recall(request.kind) && request.ino.0 == self.number
+    }
+}
+
 // The length of a file.
+struct FileLength;
+
+impl Weight<Inode> for FileLength {
+    ghost use Rattle.dm_state.specs.Inodes.{length_of};
+
+    ghost weight = { λ _ inode. length_of inode.contents };
+
+    fn weigh(&self, inode: &Inode) -> u64 {
+        length(&inode.contents)
+    }
+}
+
+// The path of this text. The names of files are paths, so a text that is none is in no table that a run makes.
+fn named(alloc: Global, text: &[u8]) -> Result<Path, NoMemory>
+    ensures { IfOk result (λ path. path ≡ text.now) }
+{
+    match Path::of_bytes(alloc, text) {
+        Ok(path) => Ok(path),
+        Err(_) => Err(NoMemory),
+    }
+}
+
+// How long a file is.
 pub(crate) fn length(contents: &Contents) -> u64
     ensures { result ≡ length_of contents.now }
 {
@@ -167,13 +256,12 @@ pub(crate) fn asked_by(alloc: Global, entry: Option<&Entry>) -> Result<Listed<Gr
 {
     match entry {
         None => Ok(Listed::from_vec(Vec::new(alloc))),
-        Some(entry) => asked_in(alloc, entry.copies.as_slice()),
+        Some(entry) => Ok(Listed::from_vec(asked_in(alloc, entry.copies.as_slice())?)),
     }
 }
 
-fn asked_in(alloc: Global, copies: &[AskedCopy]) -> Result<Listed<GroupId>, NoMemory>
-    ensures { IfOk result (λ groups. groups ≡ map (λ c. c.group) copies.now) }
+fn asked_in(alloc: Global, copies: &[AskedCopy]) -> Result<Vec<GroupId>, AllocError>
+    ensures { IfOk result (λ groups. groups.items ≡ map (λ c. c.group) copies.now) }
 {
-    let groups = copies.iter().map(|copy| copy.group).collect(alloc)?;
-    Ok(Listed::from_vec(groups))
+    copies.iter().map(|copy| copy.group).collect(alloc)
 }
