@@ -1,7 +1,7 @@
 //! What each call of the daemon comes to.
 
 
-ghost use Rattle.std.specs.Prelude.{◌≡◌, ◌+◌, ◌-◌, ◌&&◌, not, cond, is_some, nat_eq, nat_lt, ◌^◌, ◌<◌, true, None, Some, IfOk, map};
+ghost use Rattle.std.specs.Prelude.{◌≡◌, ◌+◌, ◌-◌, ◌&&◌, not, cond, is_some, nat_eq, nat_lt, ◌^◌, ◌<◌, ◌≤◌, true, false, length, take, drop, IfSome, IfNone, None, Some, IfOk, map};
 ghost use Rattle.std.specs.List.{list_all, list_any};
 ghost use Rattle.std.specs.FinMap as finmap;
 ghost use Rattle.std.specs.Option.{option_copied, option_map};
@@ -9,8 +9,10 @@ ghost use Rattle.dm_rules.specs.Numbers.{narrowed as narrowed_of};
 ghost use Rattle.dm_machine.specs.Tests.{first_true};
 ghost use Rattle.dm_machine.specs.Files.{numbered, file_at, length_at as length_at_of};
 ghost use Rattle.dm_machine.specs.Plan.{prepared};
+ghost use Rattle.dm_machine.specs.Effects.{reads_or};
+ghost use Rattle.dm_machine.specs.Volumes.{same_text};
 ghost use Rattle.dm_base.specs.declared.request.PutEnd.TheVariants as end;
-ghost use Rattle.dm_machine.specs.DaemonCalls.{changed_in, entry_asks, first_filled, too_full as too_full_test, is_whole as is_whole_of, differ as differ_of, are_configured as are_configured_of, is_filled as is_filled_of, is_reserved as is_reserved_of, has_committed as has_committed_of, recall_of as recall_of_worker, is_free as is_free_of, write as write_plan, end_put as end_put_plan, changes_used as changes_used_test, refused, time_at, journalled as journalled_by, daemon_plan, no_request as no_request_plan, no_file as no_file_plan, begin_put as begin_put_plan, copy_stored as copy_stored_plan, release as release_plan, begin_recall as begin_recall_plan, remove as remove_plan, attributes as attributes_plan};
+ghost use Rattle.dm_machine.specs.DaemonCalls.{contents_at, taken_bytes as taken_bytes_of, taken_step as taken_step_of, recall_begun as recall_begun_plan, end_recall as end_recall_plan, drop_recall as drop_recall_plan, patch as patch_plan, patched as patched_of, joins as joins_of, was_read as was_read_of, changed_in, entry_asks, first_filled, too_full as too_full_test, is_whole as is_whole_of, differ as differ_of, are_configured as are_configured_of, is_filled as is_filled_of, is_reserved as is_reserved_of, has_committed as has_committed_of, recall_of as recall_of_worker, is_free as is_free_of, write as write_plan, end_put as end_put_plan, changes_used as changes_used_test, refused, time_at, journalled as journalled_by, daemon_plan, no_request as no_request_plan, no_file as no_file_plan, begin_put as begin_put_plan, copy_stored as copy_stored_plan, release as release_plan, begin_recall as begin_recall_plan, remove as remove_plan, attributes as attributes_plan};
 ghost use Rattle.dm_machine.specs.declared.call.Component.TheVariants as component;
 ghost use Rattle.dm_machine.specs.declared.plan.Ending.TheVariants as ending;
 ghost use Rattle.dm_machine.specs.declared.plan.Mark.TheVariants as mark;
@@ -23,8 +25,8 @@ use crate::guards::lowest;
 use crate::plan::{Ending, Mark, Opening, Payload, Prepared};
 use crate::state::{Daemon, Joint, OpenRequest, Recall, RequestKind, Side};
 use dm_base::{Bfid, Bytes, DaemonError, GroupId, Ino, NoMemory, Path, PutEnd, Secs};
-use dm_state::{AskedCopy, DaemonRecord, DaemonStep, Entry, Inode};
-use dm_tables::Test;
+use dm_state::{AskedCopy, Contents, DaemonRecord, DaemonStep, Entry, Inode};
+use dm_tables::{Numbers, Test};
 use std::alloc::Global;
 
 // The last change, and the last counter of a put.
@@ -173,6 +175,40 @@ impl Daemon {
         self.tables.change + 1
     }
 
+    // What the recall of the inode with this number gives: the bytes that it has, or those that were recalled.
+    fn taken_bytes(&self, alloc: Global, ino: Ino, recalled: &Bytes) -> Result<Bytes, NoMemory>
+        ensures { IfOk result (λ bytes. bytes ≡ taken_bytes_of recalled.now (contents_at self.now.tables.inodes ino.0)) }
+    {
+        match self.tables.inodes.get(u128::from(ino.0)) {
+            None => Ok(Bytes::from_vec(Vec::new(alloc))),
+            Some(inode) => taken(alloc, &inode.contents, recalled),
+        }
+    }
+
+    // What it journals.
+    fn taken_step(&self, alloc: Global, now: Secs, ino: Ino, recalled: &Bytes) -> Result<Option<Payload>, NoMemory>
+        ensures { IfOk result (λ step. step ≡ taken_step_of self.now now.0 ino.0 recalled.now (contents_at self.now.tables.inodes ino.0)) }
+    {
+        match self.tables.inodes.get(u128::from(ino.0)) {
+            None => Ok(None),
+            Some(inode) => self.taken_from(alloc, now, ino, &inode.contents, recalled),
+        }
+    }
+
+    fn taken_from(&self, alloc: Global, now: Secs, ino: Ino, contents: &Contents, recalled: &Bytes) -> Result<Option<Payload>, NoMemory>
+        ensures { IfOk result (λ step. step ≡ taken_step_of self.now now.0 ino.0 recalled.now contents.now) }
+    {
+        match contents {
+            Contents::Regular { bytes: _ }
+            | Contents::Making { bytes: _, bfid: _ }
+            | Contents::Dual { bytes: _, bfid: _ } => Ok(None),
+            Contents::Offline { len: _, bfid: _ } => {
+                let bytes = recalled.copied(alloc)?;
+                Ok(self.journalled(now, DaemonStep::Taken { ino, bytes }))
+            }
+        }
+    }
+
     // The files would have more bytes than the cap with this one of `need` bytes, whose present bytes don't count.
     fn too_full(&self, file: Option<(u64, &Inode)>, need: u128) -> (bool, DaemonError)
         ensures { (result.0, refused result.1) ≡ too_full_test self.now (option_map (λ f. numbered f.0 f.1.now) file.entry) need }
@@ -184,6 +220,18 @@ impl Daemon {
             cap: self.cap,
         };
         (passes(have, need, u128::from(self.cap)), error)
+    }
+}
+
+// What a recall gives of a file that has these contents.
+fn taken(alloc: Global, contents: &Contents, recalled: &Bytes) -> Result<Bytes, NoMemory>
+    ensures { IfOk result (λ bytes. bytes ≡ taken_bytes_of recalled.now contents.now) }
+{
+    match contents {
+        Contents::Regular { bytes }
+        | Contents::Making { bytes, bfid: _ }
+        | Contents::Dual { bytes, bfid: _ } => bytes.copied(alloc),
+        Contents::Offline { len: _, bfid: _ } => recalled.copied(alloc),
     }
 }
 
@@ -340,6 +388,110 @@ impl Test<Side> for ReservedFor {
             Some(copy) => copy.reservation.is_some(),
         }
     }
+}
+
+fn is_there(recall: Option<&Recall>) -> bool
+    ensures { result ≡ is_some (option_copied recall.entry) }
+{
+    match recall {
+        None => false,
+        Some(_) => true,
+    }
+}
+
+// Whether the bytes are the whole bitfile as it was read from one of the groups that were asked.
+fn was_read(recall: Option<&Recall>, bytes: &[u8]) -> bool
+    ensures { result ≡ was_read_of (option_copied recall.entry) bytes.now }
+{
+    match recall {
+        None => false,
+        Some(recall) => bytes.len() as u64 == recall.len && is_any_copy(recall, bytes),
+    }
+}
+
+// Whether they are what was read from one of the groups.
+fn is_any_copy(recall: &Recall, bytes: &[u8]) -> bool
+    ensures { result ≡ list_any (λ g. joins_of 0 (finmap.entries (reads_or (finmap.get recall.now.reads g.0))) bytes.now) recall.now.asked }
+{
+    recall
+        .asked
+        .as_slice()
+        .iter()
+        .any(|group| is_copy(&recall.reads, *group, bytes))
+}
+
+// Whether they are what was read from the group.
+fn is_copy(reads: &Numbers<Numbers<Bytes>>, group: GroupId, bytes: &[u8]) -> bool
+    ensures { result ≡ joins_of 0 (finmap.entries (reads_or (finmap.get reads.now group.0))) bytes.now }
+{
+    match reads.get(u128::from(group.0)) {
+        None => bytes.is_empty(),
+        Some(parts) => joins(parts, bytes),
+    }
+}
+
+// Whether the parts, each at its offset, are the bytes, one behind another.
+fn joins(parts: &Numbers<Bytes>, bytes: &[u8]) -> bool
+    ensures { result ≡ joins_of 0 (finmap.entries parts.now) bytes.now }
+{
+    let mut at: u128 = 0;
+    let mut rest = bytes;
+    for (offset, part) in parts.entries() {
+        if !(*offset == at) {
+            return false;
+        }
+        let Some(behind) = behind(rest, part.as_slice()) else {
+            return false;
+        };
+        at += part.len() as u128;
+        rest = behind;
+    }
+    rest.is_empty()
+}
+
+// The bytes behind the part, with which they begin.
+fn behind<'a>(bytes: &'a [u8], part: &[u8]) -> Option<&'a [u8]>
+    ensures there { IfSome result (λ rest. (same_text (take (length part.now) bytes.now) part.now ≡ true) × (rest.now ≡ drop (length part.now) bytes.now) × (length part.now + length rest.now ≡ length bytes.now)) }
+    ensures none { IfNone result (same_text (take (length part.now) bytes.now) part.now ≡ false) }
+{
+    if bytes.len() < part.len() {
+        return None;
+    }
+    let (begin, rest) = bytes.split_at(part.len());
+    if !(begin == part) {
+        return None;
+    }
+    Some(rest)
+}
+
+// The length of a file with those of its bytes from the offset on replaced.
+fn patched_len(offset: u64, bytes: &[u8], old: &[u8]) -> u128
+    ensures { result ≡ length (patched_of offset bytes.now old.now) }
+{
+    let end = u128::from(offset) + bytes.len() as u128;
+    end + less(old.len() as u128, end)
+}
+
+// The bytes of a file with those from the offset on replaced; a gap is filled with zeros.
+fn patched(alloc: Global, offset: usize, bytes: &[u8], old: &[u8]) -> Result<Bytes, NoMemory>
+    requires { offset + length bytes.now ≤ 16777216 }
+    ensures { IfOk result (λ whole. whole ≡ patched_of offset bytes.now old.now) }
+{
+    let mut whole = Vec::from_slice(alloc, old)?;
+    whole.resize(offset, 0)?;
+    whole.extend_from_slice(bytes)?;
+    whole.extend_from_slice(tail(old, offset + bytes.len()))?;
+    Ok(Bytes::from_vec(whole))
+}
+
+// The bytes from a place on.
+fn tail(bytes: &[u8], place: usize) -> &[u8]
+    ensures { result.now ≡ drop place bytes.now }
+{
+    if bytes.len() < place {
+        return &[];
+    }
+    &bytes[place..]
 }
 
 impl Joint {
@@ -538,7 +690,7 @@ impl Joint {
             return Ok(answered(illegal, Ending::Nothing, Answer::DaemonRefused { error }));
         }
         let bfid = Bfid::of(self.daemon.tables.site, self.daemon.tables.counter);
-        let bytes = files::online(alloc, &inode.contents)?;
+        let bytes = files::online_copy(alloc, &inode.contents)?;
         let step = DaemonStep::BeginPut {
             path: path.copied(alloc)?,
             bfid,
@@ -558,5 +710,123 @@ impl Joint {
         };
         let all = lowest(&[(may_ask, 4), (self.is_free(number), 2)]);
         Ok(opening_with(all, illegal, self.daemon.journalled(now, step), opens, answer))
+    }
+
+    fn begin_recall(&self, alloc: Global, worker: u32, number: u64, file: Option<(u64, &Inode)>) -> Result<Prepared, NoMemory>
+        ensures { IfOk result (λ p. p ≡ prepared (begin_recall_plan self.now worker number (option_map (λ f. numbered f.0 f.1.now) file.entry))) }
+    {
+        let Some((ino, inode)) = file else {
+            return Ok(no_file());
+        };
+        match &inode.contents {
+            Contents::Regular { bytes }
+            | Contents::Making { bytes, bfid: _ }
+            | Contents::Dual { bytes, bfid: _ } => {
+                let bytes = bytes.copied(alloc)?;
+                Ok(answered(None, Ending::Nothing, Answer::Online { bytes }))
+            }
+            Contents::Offline { len, bfid } => {
+                self.recall_begun(alloc, worker, number, ino, inode, *len, *bfid)
+            }
+        }
+    }
+
+    // A recall of a bitfile that is away begins.
+    fn recall_begun(&self, alloc: Global, worker: u32, number: u64, ino: u64, inode: &Inode, len: u64, bfid: Bfid) -> Result<Prepared, NoMemory>
+        ensures { IfOk result (λ p. p ≡ prepared (recall_begun_plan self.now worker number (numbered ino inode.now) len bfid)) }
+    {
+        let asked = files::asked_by(alloc, self.daemon.tables.entries.get(bfid.0))?;
+        let opens = Opening::Recall {
+            worker,
+            number,
+            request: request_of(ino, bfid, inode.change, RequestKind::Recall),
+            recall: Recall {
+                bfid,
+                len,
+                asked: asked.copied(alloc)?,
+                reads: Numbers::empty(alloc),
+            },
+        };
+        let answer = Answer::RecallBegun {
+            request: number,
+            bfid,
+            len,
+            asked,
+        };
+        let illegal = lowest(&[(self.is_free(number), 2)]);
+        Ok(opening_with(illegal, None, None, opens, answer))
+    }
+
+    fn end_recall(&self, alloc: Global, worker: u32, number: u64, bytes: &Bytes, now: Secs, request: Option<OpenRequest>) -> Result<Prepared, NoMemory>
+        ensures { IfOk result (λ p. p ≡ prepared (end_recall_plan self.now worker number bytes.now now.0 request)) }
+    {
+        let Some(begun) = request else {
+            return Ok(no_request());
+        };
+        let recall = self.recall_of(worker, number);
+        let illegal = lowest(&[
+            (files::is_recall(begun.kind), 7),
+            (is_there(recall), 7),
+            (was_read(recall, bytes.as_slice()), 7),
+        ]);
+        let ends = Ending::Recall {
+            worker,
+            request: number,
+        };
+        if let Some(error) = changed(&begun) {
+            return Ok(answered(illegal, ends, Answer::DaemonRefused { error }));
+        }
+        let step = self.daemon.taken_step(alloc, now, begun.ino, bytes)?;
+        let bytes = self.daemon.taken_bytes(alloc, begun.ino, bytes)?;
+        Ok(stepping(illegal, ends, step, Answer::Recalled { bytes }))
+    }
+
+    fn drop_recall(&self, worker: u32, number: u64, request: Option<OpenRequest>) -> Prepared
+        ensures { result ≡ prepared (drop_recall_plan self.now worker number request) }
+    {
+        let Some(begun) = request else {
+            return no_request();
+        };
+        let illegal = lowest(&[
+            (files::is_recall(begun.kind), 7),
+            (is_there(self.recall_of(worker, number)), 7),
+        ]);
+        let ends = Ending::Recall {
+            worker,
+            request: number,
+        };
+        Prepared {
+            heals: false,
+            ..answered(illegal, ends, Answer::RecallDropped)
+        }
+    }
+
+    fn patch(&self, alloc: Global, path: &Path, offset: u64, bytes: &Bytes, now: Secs, file: Option<(u64, &Inode)>) -> Result<Prepared, NoMemory>
+        ensures { IfOk result (λ p. p ≡ prepared (patch_plan self.now path.now offset bytes.now now.0 (option_map (λ f. numbered f.0 f.1.now) file.entry))) }
+    {
+        let Some((ino, inode)) = file else {
+            return Ok(no_file());
+        };
+        let state = self.daemon.state(ino, inode);
+        let old = files::online(&inode.contents);
+        let tests = [
+            (
+                u128::from(FILE_LIMIT) < u128::from(offset) + bytes.len() as u128,
+                DaemonError::TooMany { limit: FILE_LIMIT },
+            ),
+            (files::is_away(state), DaemonError::WrongState { found: state }),
+            self.daemon.changes_used(),
+            self.daemon.too_full(file, patched_len(offset, bytes.as_slice(), old)),
+        ];
+        if let Some(error) = first_error(&tests) {
+            return Ok(answered(None, Ending::Nothing, Answer::DaemonRefused { error }));
+        }
+        let change = self.daemon.next_change();
+        let step = DaemonStep::Write {
+            path: path.copied(alloc)?,
+            change,
+            bytes: patched(alloc, offset as usize, bytes.as_slice(), old)?,
+        };
+        Ok(stepping(None, Ending::Nothing, self.daemon.journalled(now, step), Answer::Changed { change }))
     }
 }

@@ -174,16 +174,23 @@ pub(crate) fn length(contents: &Contents) -> u64
     }
 }
 
-// A copy of the bytes that are on the disk.
-pub(crate) fn online(alloc: Global, contents: &Contents) -> Result<Bytes, NoMemory>
-    ensures { IfOk result (λ bytes. bytes ≡ bytes_online contents.now) }
+// The bytes, or none of them where they aren't on the disk.
+pub(crate) fn online(contents: &Contents) -> &[u8]
+    ensures { result.now ≡ bytes_online contents.now }
 {
     match contents {
         Contents::Regular { bytes }
         | Contents::Making { bytes, bfid: _ }
-        | Contents::Dual { bytes, bfid: _ } => bytes.copied(alloc),
-        Contents::Offline { len: _, bfid: _ } => Ok(Bytes::from_vec(Vec::new(alloc))),
+        | Contents::Dual { bytes, bfid: _ } => bytes.as_slice(),
+        Contents::Offline { len: _, bfid: _ } => &[],
     }
+}
+
+// A copy of them.
+pub(crate) fn online_copy(alloc: Global, contents: &Contents) -> Result<Bytes, NoMemory>
+    ensures { IfOk result (λ bytes. bytes ≡ bytes_online contents.now) }
+{
+    Ok(Bytes::from_vec(Vec::from_slice(alloc, online(contents))?))
 }
 
 // The bitfile that a user is told of: that of a regular file is none.
