@@ -1,6 +1,5 @@
 //! What each call of the daemon comes to.
 
-
 ghost use Rattle.std.specs.Prelude.{◌≡◌, ◌+◌, ◌-◌, ◌&&◌, not, cond, is_some, nat_eq, nat_lt, ◌^◌, ◌<◌, ◌≤◌, true, false, length, take, drop, IfSome, IfNone, None, Some, IfOk, map};
 ghost use Rattle.std.specs.List.{list_all, list_any};
 ghost use Rattle.std.specs.FinMap as finmap;
@@ -12,7 +11,7 @@ ghost use Rattle.dm_machine.specs.Plan.{prepared};
 ghost use Rattle.dm_machine.specs.Effects.{reads_or};
 ghost use Rattle.dm_machine.specs.Volumes.{same_text};
 ghost use Rattle.dm_base.specs.declared.request.PutEnd.TheVariants as end;
-ghost use Rattle.dm_machine.specs.DaemonCalls.{contents_at, taken_bytes as taken_bytes_of, taken_step as taken_step_of, recall_begun as recall_begun_plan, end_recall as end_recall_plan, drop_recall as drop_recall_plan, patch as patch_plan, patched as patched_of, joins as joins_of, was_read as was_read_of, changed_in, entry_asks, first_filled, too_full as too_full_test, is_whole as is_whole_of, differ as differ_of, are_configured as are_configured_of, is_filled as is_filled_of, is_reserved as is_reserved_of, has_committed as has_committed_of, recall_of as recall_of_worker, is_free as is_free_of, write as write_plan, end_put as end_put_plan, changes_used as changes_used_test, refused, time_at, journalled as journalled_by, daemon_plan, no_request as no_request_plan, no_file as no_file_plan, begin_put as begin_put_plan, copy_stored as copy_stored_plan, release as release_plan, begin_recall as begin_recall_plan, remove as remove_plan, attributes as attributes_plan};
+ghost use Rattle.dm_machine.specs.DaemonCalls.{contents_at, taken_bytes as taken_bytes_of, taken_step as taken_step_of, recall_begun as recall_begun_plan, end_recall as end_recall_plan, drop_recall as drop_recall_plan, patch as patch_plan, patch_of as patch_of_plan, patched as patched_of, joins as joins_of, was_read as was_read_of, changed_in, entry_asks, first_filled, too_full as too_full_test, is_whole as is_whole_of, differ as differ_of, are_configured as are_configured_of, is_filled as is_filled_of, is_reserved as is_reserved_of, has_committed as has_committed_of, recall_of as recall_of_worker, is_free as is_free_of, write as write_plan, end_put as end_put_plan, changes_used as changes_used_test, refused, time_at, journalled as journalled_by, daemon_plan, no_request as no_request_plan, no_file as no_file_plan, begin_put as begin_put_plan, copy_stored as copy_stored_plan, release as release_plan, begin_recall as begin_recall_plan, remove as remove_plan, attributes as attributes_plan};
 ghost use Rattle.dm_machine.specs.declared.call.Component.TheVariants as component;
 ghost use Rattle.dm_machine.specs.declared.plan.Ending.TheVariants as ending;
 ghost use Rattle.dm_machine.specs.declared.plan.Mark.TheVariants as mark;
@@ -34,7 +33,9 @@ const LAST_NUMBER: u64 = 9_223_372_036_854_775_807;
 
 // The most bytes of a file, the most files and the most entries.
 const FILE_LIMIT: u64 = 16_777_216;
+
 const FILES_LIMIT: u64 = 65_536;
+
 const ENTRIES_LIMIT: u64 = 262_144;
 
 // The first error whose test is true.
@@ -70,7 +71,12 @@ fn answered(illegal: Option<u16>, ends: Ending, answer: Answer) -> Prepared
 }
 
 // A call that was looked at, is accepted, and makes nothing: what it journals and what it spends.
-fn stepping(illegal: Option<u16>, ends: Ending, payload: Option<Payload>, answer: Answer) -> Prepared
+fn stepping(
+    illegal: Option<u16>,
+    ends: Ending,
+    payload: Option<Payload>,
+    answer: Answer,
+) -> Prepared
     ensures { result ≡ record { illegal = illegal; illegal_fault = illegal; heals = true; component = component.Daemon; ends = ends; payload = payload; mark = mark.Nothing; opens = opening.Nothing; answer = answer } }
 {
     Prepared {
@@ -87,7 +93,13 @@ fn stepping(illegal: Option<u16>, ends: Ending, payload: Option<Payload>, answer
 }
 
 // A call that was looked at, is accepted, and makes a request.
-fn opening_with(illegal: Option<u16>, illegal_fault: Option<u16>, payload: Option<Payload>, opens: Opening, answer: Answer) -> Prepared
+fn opening_with(
+    illegal: Option<u16>,
+    illegal_fault: Option<u16>,
+    payload: Option<Payload>,
+    opens: Opening,
+    answer: Answer,
+) -> Prepared
     ensures { result ≡ record { illegal = illegal; illegal_fault = illegal_fault; heals = true; component = component.Daemon; ends = ending.Nothing; payload = payload; mark = mark.Nothing; opens = opens; answer = answer } }
 {
     Prepared {
@@ -161,10 +173,7 @@ impl Daemon {
         ensures { (result.0, refused result.1) ≡ changes_used_test self.now }
     {
         let limit = LAST_NUMBER;
-        (
-            limit <= self.tables.change,
-            DaemonError::TooMany { limit },
-        )
+        (limit <= self.tables.change, DaemonError::TooMany { limit })
     }
 
     // The number of the next change.
@@ -186,7 +195,13 @@ impl Daemon {
     }
 
     // What it journals.
-    fn taken_step(&self, alloc: Global, now: Secs, ino: Ino, recalled: &Bytes) -> Result<Option<Payload>, NoMemory>
+    fn taken_step(
+        &self,
+        alloc: Global,
+        now: Secs,
+        ino: Ino,
+        recalled: &Bytes,
+    ) -> Result<Option<Payload>, NoMemory>
         ensures { IfOk result (λ step. step ≡ taken_step_of self.now now.0 ino.0 recalled.now (contents_at self.now.tables.inodes ino.0)) }
     {
         match self.tables.inodes.get(u128::from(ino.0)) {
@@ -195,7 +210,14 @@ impl Daemon {
         }
     }
 
-    fn taken_from(&self, alloc: Global, now: Secs, ino: Ino, contents: &Contents, recalled: &Bytes) -> Result<Option<Payload>, NoMemory>
+    fn taken_from(
+        &self,
+        alloc: Global,
+        now: Secs,
+        ino: Ino,
+        contents: &Contents,
+        recalled: &Bytes,
+    ) -> Result<Option<Payload>, NoMemory>
         ensures { IfOk result (λ step. step ≡ taken_step_of self.now now.0 ino.0 recalled.now contents.now) }
     {
         match contents {
@@ -347,11 +369,7 @@ fn has_stored(copies: &[AskedCopy], group: GroupId) -> bool
 fn end_of(dual: bool) -> PutEnd
     ensures { result ≡ cond dual end.Dual end.Regular }
 {
-    if dual {
-        PutEnd::Dual
-    } else {
-        PutEnd::Regular
-    }
+    if dual { PutEnd::Dual } else { PutEnd::Regular }
 }
 
 fn is_filled(place: Option<GroupId>) -> bool
@@ -543,24 +561,44 @@ impl Joint {
             .all(|group| self.sides.contains(u128::from(group.0)))
     }
 
-    fn release(&self, alloc: Global, path: &Path, now: Secs, file: Option<(u64, &Inode)>) -> Result<Prepared, NoMemory>
+    fn release(
+        &self,
+        alloc: Global,
+        path: &Path,
+        now: Secs,
+        file: Option<(u64, &Inode)>,
+    ) -> Result<Prepared, NoMemory>
         ensures { IfOk result (λ p. p ≡ prepared (release_plan self.now path.now now.0 (option_map (λ f. numbered f.0 f.1.now) file.entry))) }
     {
         let Some((number, inode)) = file else {
             return Ok(no_file());
         };
         let state = self.daemon.state(number, inode);
-        let tests = [(!files::is_dual(state), DaemonError::WrongState { found: state })];
+        let tests = [(
+            !files::is_dual(state),
+            DaemonError::WrongState { found: state },
+        )];
         if let Some(error) = first_error(&tests) {
             return Ok(answered(None, Ending::Nothing, Answer::DaemonRefused { error }));
         }
         let step = DaemonStep::Release {
             path: path.copied(alloc)?,
         };
-        Ok(stepping(None, Ending::Nothing, self.daemon.journalled(now, step), Answer::Released))
+        Ok(stepping(
+            None,
+            Ending::Nothing,
+            self.daemon.journalled(now, step),
+            Answer::Released,
+        ))
     }
 
-    fn remove(&self, alloc: Global, path: &Path, now: Secs, file: Option<(u64, &Inode)>) -> Result<Prepared, NoMemory>
+    fn remove(
+        &self,
+        alloc: Global,
+        path: &Path,
+        now: Secs,
+        file: Option<(u64, &Inode)>,
+    ) -> Result<Prepared, NoMemory>
         ensures { IfOk result (λ p. p ≡ prepared (remove_plan self.now path.now now.0 (option_map (λ f. numbered f.0 f.1.now) file.entry))) }
     {
         if file.is_none() {
@@ -575,10 +613,20 @@ impl Joint {
             path: path.copied(alloc)?,
             change,
         };
-        Ok(stepping(None, Ending::Nothing, self.daemon.journalled(now, step), Answer::Changed { change }))
+        Ok(stepping(
+            None,
+            Ending::Nothing,
+            self.daemon.journalled(now, step),
+            Answer::Changed { change },
+        ))
     }
 
-    fn attributes(&self, alloc: Global, path: &Path, file: Option<(u64, &Inode)>) -> Result<Prepared, NoMemory>
+    fn attributes(
+        &self,
+        alloc: Global,
+        path: &Path,
+        file: Option<(u64, &Inode)>,
+    ) -> Result<Prepared, NoMemory>
         ensures { IfOk result (λ p. p ≡ prepared (attributes_plan self.now path.now (option_map (λ f. numbered f.0 f.1.now) file.entry))) }
     {
         let Some((number, inode)) = file else {
@@ -588,7 +636,14 @@ impl Joint {
         Ok(answered(None, Ending::Nothing, Answer::File { row }))
     }
 
-    fn write(&self, alloc: Global, path: &Path, bytes: &Bytes, now: Secs, file: Option<(u64, &Inode)>) -> Result<Prepared, NoMemory>
+    fn write(
+        &self,
+        alloc: Global,
+        path: &Path,
+        bytes: &Bytes,
+        now: Secs,
+        file: Option<(u64, &Inode)>,
+    ) -> Result<Prepared, NoMemory>
         ensures { IfOk result (λ p. p ≡ prepared (write_plan self.now path.now bytes.now now.0 (option_map (λ f. numbered f.0 f.1.now) file.entry))) }
     {
         let tests = [
@@ -612,7 +667,12 @@ impl Joint {
             change,
             bytes: bytes.copied(alloc)?,
         };
-        Ok(stepping(None, Ending::Nothing, self.daemon.journalled(now, step), Answer::Changed { change }))
+        Ok(stepping(
+            None,
+            Ending::Nothing,
+            self.daemon.journalled(now, step),
+            Answer::Changed { change },
+        ))
     }
 
     fn copy_stored(&self, group: GroupId, now: Secs, request: Option<OpenRequest>) -> Prepared
@@ -623,7 +683,10 @@ impl Joint {
         };
         let illegal = lowest(&[
             (files::is_put(begun.kind), 5),
-            (awaits(self.daemon.tables.entries.get(begun.bfid.0), group), 5),
+            (
+                awaits(self.daemon.tables.entries.get(begun.bfid.0), group),
+                5,
+            ),
             (self.has_committed(group, begun.bfid), 5),
         ]);
         if let Some(error) = changed(&begun) {
@@ -633,10 +696,21 @@ impl Joint {
             bfid: begun.bfid,
             group,
         };
-        stepping(illegal, Ending::Nothing, self.daemon.journalled(now, step), Answer::CopyStored)
+        stepping(
+            illegal,
+            Ending::Nothing,
+            self.daemon.journalled(now, step),
+            Answer::CopyStored,
+        )
     }
 
-    fn end_put(&self, alloc: Global, number: u64, now: Secs, request: Option<OpenRequest>) -> Result<Prepared, NoMemory>
+    fn end_put(
+        &self,
+        alloc: Global,
+        number: u64,
+        now: Secs,
+        request: Option<OpenRequest>,
+    ) -> Result<Prepared, NoMemory>
         ensures { IfOk result (λ p. p ≡ prepared (end_put_plan self.now number now.0 request)) }
     {
         let Some(begun) = request else {
@@ -661,10 +735,23 @@ impl Joint {
             bfid: begun.bfid,
             dual,
         };
-        Ok(stepping(illegal, ends, self.daemon.journalled(now, step), Answer::PutEnded { end: end_of(dual) }))
+        Ok(stepping(
+            illegal,
+            ends,
+            self.daemon.journalled(now, step),
+            Answer::PutEnded { end: end_of(dual) },
+        ))
     }
 
-    fn begin_put(&self, alloc: Global, path: &Path, asked: [Option<GroupId>; 2], now: Secs, number: u64, file: Option<(u64, &Inode)>) -> Result<Prepared, NoMemory>
+    fn begin_put(
+        &self,
+        alloc: Global,
+        path: &Path,
+        asked: [Option<GroupId>; 2],
+        now: Secs,
+        number: u64,
+        file: Option<(u64, &Inode)>,
+    ) -> Result<Prepared, NoMemory>
         ensures { IfOk result (λ p. p ≡ prepared (begin_put_plan self.now path.now asked now.0 number (option_map (λ f. numbered f.0 f.1.now) file.entry))) }
     {
         let groups = files::groups_of(alloc, asked)?;
@@ -676,10 +763,15 @@ impl Joint {
         };
         let state = self.daemon.state(ino, inode);
         let tests = [
-            (!files::is_regular(state), DaemonError::WrongState { found: state }),
+            (
+                !files::is_regular(state),
+                DaemonError::WrongState { found: state },
+            ),
             (
                 ENTRIES_LIMIT <= self.daemon.tables.entries.len() as u64,
-                DaemonError::TooMany { limit: ENTRIES_LIMIT },
+                DaemonError::TooMany {
+                    limit: ENTRIES_LIMIT,
+                },
             ),
             (
                 LAST_NUMBER < self.daemon.tables.counter,
@@ -709,10 +801,22 @@ impl Joint {
             change: inode.change,
         };
         let all = lowest(&[(may_ask, 4), (self.is_free(number), 2)]);
-        Ok(opening_with(all, illegal, self.daemon.journalled(now, step), opens, answer))
+        Ok(opening_with(
+            all,
+            illegal,
+            self.daemon.journalled(now, step),
+            opens,
+            answer,
+        ))
     }
 
-    fn begin_recall(&self, alloc: Global, worker: u32, number: u64, file: Option<(u64, &Inode)>) -> Result<Prepared, NoMemory>
+    fn begin_recall(
+        &self,
+        alloc: Global,
+        worker: u32,
+        number: u64,
+        file: Option<(u64, &Inode)>,
+    ) -> Result<Prepared, NoMemory>
         ensures { IfOk result (λ p. p ≡ prepared (begin_recall_plan self.now worker number (option_map (λ f. numbered f.0 f.1.now) file.entry))) }
     {
         let Some((ino, inode)) = file else {
@@ -732,7 +836,16 @@ impl Joint {
     }
 
     // A recall of a bitfile that is away begins.
-    fn recall_begun(&self, alloc: Global, worker: u32, number: u64, ino: u64, inode: &Inode, len: u64, bfid: Bfid) -> Result<Prepared, NoMemory>
+    fn recall_begun(
+        &self,
+        alloc: Global,
+        worker: u32,
+        number: u64,
+        ino: u64,
+        inode: &Inode,
+        len: u64,
+        bfid: Bfid,
+    ) -> Result<Prepared, NoMemory>
         ensures { IfOk result (λ p. p ≡ prepared (recall_begun_plan self.now worker number (numbered ino inode.now) len bfid)) }
     {
         let asked = files::asked_by(alloc, self.daemon.tables.entries.get(bfid.0))?;
@@ -757,7 +870,15 @@ impl Joint {
         Ok(opening_with(illegal, None, None, opens, answer))
     }
 
-    fn end_recall(&self, alloc: Global, worker: u32, number: u64, bytes: &Bytes, now: Secs, request: Option<OpenRequest>) -> Result<Prepared, NoMemory>
+    fn end_recall(
+        &self,
+        alloc: Global,
+        worker: u32,
+        number: u64,
+        bytes: &Bytes,
+        now: Secs,
+        request: Option<OpenRequest>,
+    ) -> Result<Prepared, NoMemory>
         ensures { IfOk result (λ p. p ≡ prepared (end_recall_plan self.now worker number bytes.now now.0 request)) }
     {
         let Some(begun) = request else {
@@ -801,12 +922,40 @@ impl Joint {
         }
     }
 
-    fn patch(&self, alloc: Global, path: &Path, offset: u64, bytes: &Bytes, now: Secs, file: Option<(u64, &Inode)>) -> Result<Prepared, NoMemory>
+    fn patch(
+        &self,
+        alloc: Global,
+        path: &Path,
+        offset: u64,
+        bytes: &Bytes,
+        now: Secs,
+        file: Option<(u64, &Inode)>,
+    ) -> Result<Prepared, NoMemory>
         ensures { IfOk result (λ p. p ≡ prepared (patch_plan self.now path.now offset bytes.now now.0 (option_map (λ f. numbered f.0 f.1.now) file.entry))) }
     {
-        let Some((ino, inode)) = file else {
-            return Ok(no_file());
-        };
+        if let Some((ino, inode)) = file {
+            return self.patch_of(alloc, path, offset, bytes, now, ino, inode);
+        }
+        if u128::from(FILE_LIMIT) < u128::from(offset) + bytes.len() as u128 {
+            let error = DaemonError::TooMany { limit: FILE_LIMIT };
+            return Ok(answered(None, Ending::Nothing, Answer::DaemonRefused { error }));
+        }
+        Ok(no_file())
+    }
+
+    // A patch of the file with this inode.
+    fn patch_of(
+        &self,
+        alloc: Global,
+        path: &Path,
+        offset: u64,
+        bytes: &Bytes,
+        now: Secs,
+        ino: u64,
+        inode: &Inode,
+    ) -> Result<Prepared, NoMemory>
+        ensures { IfOk result (λ p. p ≡ prepared (patch_of_plan self.now path.now offset bytes.now now.0 (numbered ino inode.now))) }
+    {
         let state = self.daemon.state(ino, inode);
         let old = files::online(&inode.contents);
         let tests = [
@@ -814,9 +963,15 @@ impl Joint {
                 u128::from(FILE_LIMIT) < u128::from(offset) + bytes.len() as u128,
                 DaemonError::TooMany { limit: FILE_LIMIT },
             ),
-            (files::is_away(state), DaemonError::WrongState { found: state }),
+            (
+                files::is_away(state),
+                DaemonError::WrongState { found: state },
+            ),
             self.daemon.changes_used(),
-            self.daemon.too_full(file, patched_len(offset, bytes.as_slice(), old)),
+            self.daemon.too_full(
+                Some((ino, inode)),
+                patched_len(offset, bytes.as_slice(), old),
+            ),
         ];
         if let Some(error) = first_error(&tests) {
             return Ok(answered(None, Ending::Nothing, Answer::DaemonRefused { error }));
@@ -827,6 +982,87 @@ impl Joint {
             change,
             bytes: patched(alloc, offset as usize, bytes.as_slice(), old)?,
         };
-        Ok(stepping(None, Ending::Nothing, self.daemon.journalled(now, step), Answer::Changed { change }))
+        Ok(stepping(
+            None,
+            Ending::Nothing,
+            self.daemon.journalled(now, step),
+            Answer::Changed { change },
+        ))
+    }
+
+    /// What a call of the daemon comes to.
+    pub(crate) fn prepare_daemon(
+        &self,
+        alloc: Global,
+        worker: u32,
+        call: &DaemonCall,
+    ) -> Result<Prepared, NoMemory>
+        ensures { IfOk result (λ p. p ≡ prepared (daemon_plan self.now worker call.now)) }
+    {
+        match call {
+            DaemonCall::BeginPut {
+                path,
+                asked,
+                now,
+                request,
+            } => {
+                self.begin_put(
+                    alloc,
+                    path,
+                    *asked,
+                    *now,
+                    *request,
+                    self.daemon.file_at(path),
+                )
+            }
+            DaemonCall::CopyStored {
+                request,
+                group,
+                now,
+            } => { Ok(self.copy_stored(*group, *now, self.request(*request))) }
+            DaemonCall::EndPut { request, now } => {
+                self.end_put(alloc, *request, *now, self.request(*request))
+            }
+            DaemonCall::Release { path, now } => {
+                self.release(alloc, path, *now, self.daemon.file_at(path))
+            }
+            DaemonCall::BeginRecall { path, request } => {
+                self.begin_recall(alloc, worker, *request, self.daemon.file_at(path))
+            }
+            DaemonCall::EndRecall {
+                request,
+                bytes,
+                now,
+            } => { self.end_recall(alloc, worker, *request, bytes, *now, self.request(*request)) }
+            DaemonCall::DropRecall { request } => {
+                Ok(self.drop_recall(worker, *request, self.request(*request)))
+            }
+            DaemonCall::Write { path, bytes, now } => {
+                self.write(alloc, path, bytes, *now, self.daemon.file_at(path))
+            }
+            DaemonCall::Patch {
+                path,
+                offset,
+                bytes,
+                now,
+            } => { self.patch(alloc, path, *offset, bytes, *now, self.daemon.file_at(path)) }
+            DaemonCall::Remove { path, now } => {
+                self.remove(alloc, path, *now, self.daemon.file_at(path))
+            }
+            DaemonCall::Attributes { path } => {
+                self.attributes(alloc, path, self.daemon.file_at(path))
+            }
+            DaemonCall::List => {
+                let rows = self.daemon.rows(alloc)?;
+                Ok(answered(None, Ending::Nothing, Answer::Files { rows }))
+            }
+        }
+    }
+
+    // The open request of the number.
+    fn request(&self, number: u64) -> Option<OpenRequest>
+        ensures { result ≡ finmap.get self.now.daemon.requests number }
+    {
+        self.daemon.requests.get(u128::from(number)).copied()
     }
 }

@@ -200,11 +200,7 @@ fn bfid_shown(state: FileState, contents: &Contents) -> Option<Bfid>
     match contents {
         Contents::Regular { bytes: _ } => None,
         Contents::Making { bytes: _, bfid } => {
-            if is_regular(state) {
-                None
-            } else {
-                Some(*bfid)
-            }
+            if is_regular(state) { None } else { Some(*bfid) }
         }
         Contents::Dual { bytes: _, bfid } | Contents::Offline { len: _, bfid } => Some(*bfid),
     }
@@ -242,7 +238,10 @@ pub(crate) fn is_away(state: FileState) -> bool
 }
 
 // The groups of the two places that are filled.
-pub(crate) fn groups_of(alloc: Global, asked: [Option<GroupId>; 2]) -> Result<Listed<GroupId>, NoMemory>
+pub(crate) fn groups_of(
+    alloc: Global,
+    asked: [Option<GroupId>; 2],
+) -> Result<Listed<GroupId>, NoMemory>
     ensures { IfOk result (λ groups. groups ≡ groups_in asked) }
 {
     let [first, second] = asked;
