@@ -10,8 +10,13 @@ mod call;
 mod daemon_plans;
 mod files;
 mod guards;
+mod limits;
 mod plan;
+mod prepared;
+mod puts;
+mod recalls;
 mod state;
+mod writes;
 
 pub use answer::Answer;
 pub use call::{Call, Component, DaemonCall, Event, GroupCall, VolumeCall};

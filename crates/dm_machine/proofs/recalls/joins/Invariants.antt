@@ -1,7 +1,7 @@
 use Rattle.std.proofs.Common.{◌≡◌, ◌+◌, length}
 use Rattle.std.specs.FinMap.{entries}
 use Rattle.dm_machine.specs.DaemonCalls.{joins}
-use Rattle.dm_machine.proofs.daemon_plans.joins.Given as goal
+use Rattle.dm_machine.proofs.recalls.joins.Given as goal
 
 -- the parts that are left join the bytes that are left as all do all
 abbrev pub invariant-loop-offset : goal.invariant-loop-offset
