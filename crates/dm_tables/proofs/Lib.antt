@@ -4,5 +4,8 @@ pub mod Entries
 pub mod Rows
 pub mod Adjusted
 pub mod Any
+pub mod Cursor
 pub mod Sums
 pub mod Ranges
+pub mod Copies
+pub mod Loops

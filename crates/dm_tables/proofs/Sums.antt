@@ -2,7 +2,7 @@
 use Rattle.std.proofs.Common.{◌≡◌, ℕ, ◌+◌, ◌≤◌, T, List, [], ◌∷◌, Option, None, Some, cond, refl, ap, ◌∙◌, arith, Ordering, Less, Equal, Greater, is_eq}
 use Rattle.std.specs.List.{AllByRecursion}
 use Rattle.std.specs.FinMap.{FinMap, empty, get, insert, remove, find, is_sorted, put, entries, entries_sorted, get-entries, entries-insert}
-use Rattle.std.specs.FinMap.Entries.{by_order}
+use Rattle.std.specs.FinMap.Entries.{below_all, by_order}
 use Rattle.dm_tables.specs.Rows.{EachRow, adjust}
 use Rattle.dm_tables.specs.Totals.{weight_at, sum_of, total}
 use Rattle.dm_tables.proofs.Orders.{KeyOrder}
@@ -26,7 +26,7 @@ module _ {K X : Type 0} {R : K → K → Ordering} (o : KeyOrder R) where
       elim (R k e.0) as (λ r. R k e.0 ≡ r → sum_of w (by_order r ((k, v) ∷ e ∷ es) ((e.0, v) ∷ es) (e ∷ put R k v es)) + weight_at w (cond (is_eq r) (Some e.1) (find R k es)) ≡ w v + (w e.1 + sum_of w es)) [
         | Less ↦ λ p. let gone = ap (weight_at w) (find_below o k es (below_less o k e.0 es p (first _ _ h))) in omega arith
         | Equal ↦ λ p. omega arith
-        | Greater ↦ λ p. let rest : sum_of w (put R k v es) + weight_at w (find R k es) ≡ w v + sum_of w es = put_sum w k v es (second _ _ h) in omega arith
+        | Greater ↦ λ p. let rest : sum_of w (put R k v es) + weight_at w (find R k es) ≡ w v + sum_of w es = put_sum w k v es (second (below_all R e.0 es) (is_sorted R es) h) in omega arith
       ] refl
 
   -- the new row is added in the place of the one that was

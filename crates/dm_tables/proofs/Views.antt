@@ -1,14 +1,18 @@
 -- The entries of a `BTreeMap`, as a finite map.
-use Rattle.std.proofs.Common.{◌≡◌, T, List, [], ◌∷◌, Option, None, Some, Result, Ok, Err, OnErr, OnSome, cond, length, All, refl, ap, sym, subst, ◌∙◌, Ordering, Less, is_lt}
+use Rattle.std.proofs.Common.{◌≡◌, T, List, [], ◌∷◌, Option, None, Some, Result, Ok, Err, OnErr, OnSome, cond, length, All, refl, ap, sym, subst, ◌∙◌, Ordering, Less, is_lt, true, false, Bool, ◌&&◌, filter, slice_get}
 use Rattle.std.specs.Ordering.{eq_by_cmp}
 use Rattle.std.specs.Cmp.{eq_by_cmp_equiv}
 use Rattle.std.specs.Map.{lookup, keys_of}
 use Rattle.std.specs.BTreeMap.{is_at}
 use Rattle.std.specs.List.Sorted.{IsStrictlySortedBy}
 use Rattle.std.specs.List.{AllByRecursion}
-use Rattle.std.proofs.lemmas.List.Elements.{All-same, All-weaker}
+use Rattle.std.proofs.lemmas.List.Elements.{All-same, All-weaker, filter_agree}
 use Rattle.std.specs.FinMap.{empty, get, insert, remove, find, is_sorted, entries, from_entries, get-from_entries, get-insert, get-remove, len, len-entries, same_map}
 use Rattle.std.specs.FinMap.Entries.{below_all}
+use Rattle.std.specs.BTreeMap.Range.{entries_between}
+use Rattle.std.specs.declared.ops.Bound.{Bound}
+use Rattle.std.specs.declared.ops.Bound.TheVariants.{Excluded, Unbounded}
+use Rattle.dm_tables.specs.Rows.{is_past, row_after}
 use Rattle.dm_tables.proofs.Orders.{KeyOrder}
 use Rattle.dm_tables.proofs.Entries.{both, entries-from_entries}
 
@@ -25,6 +29,15 @@ on_some (Some x) p = p
 pub on_none : {T : Type 0} (P : Type 0) (r : Option T) → r ≡ None → OnSome r P
 on_none P None e = tt
 on_none P (Some x) e = cc
+
+-- where the rows past a key begin
+abbrev pub start_after : {K : Type 0} → Option K → Bound K
+start_after None = Unbounded
+start_after (Some k) = Excluded k
+
+all_left : (b : Bool) → (b && true) ≡ b
+all_left true = refl
+all_left false = refl
 
 module _ {K X : Type 0} {R : K → K → Ordering} (o : KeyOrder R) where
   -- what the entries have at a key
@@ -75,6 +88,17 @@ module _ {K X : Type 0} {R : K → K → Ordering} (o : KeyOrder R) where
       let Found : K × X → Type 0 = λ e. get (from_entries {R = R} es) e.0 ≡ Some e.1 in
       let At : K × X → Type 0 = λ e. entry_at es e.0 ≡ Some e.1 in
       All-same Found _ _ (entries-view es h) (All-weaker At Found (λ e is. get-view es e.0 ∙ is) es found)
+
+  left_after : (es : List (K × X)) (k : Option K) → entries_between R (start_after k) Unbounded es ≡ filter (λ e. is_past R k e.0) es
+  left_after es None = refl
+  left_after es (Some k) = filter_agree (λ e. is_lt (R k e.0) && true) (λ e. is_lt (R k e.0)) (λ e. all_left (is_lt (R k e.0))) es
+
+  -- the first of the entries in a range
+  pub after-view : (es : List (K × X)) → IsStrictlySortedBy R (keys_of es) → (k : Option K) (start : Bound K) → start ≡ start_after k → (left : List (K × X)) → left ≡ entries_between R start Unbounded es → row_after (from_entries {R = R} es) k ≡ slice_get left 0
+  unfolding row_after
+  after-view es h k start is left e =
+      ap (λ xs. slice_get (filter (λ e. is_past R k e.0) xs) 0) (entries-view es h)
+      ∙ ap (λ xs. slice_get xs 0) (sym (left_after es k) ∙ ap (λ b. entries_between R b Unbounded es) (sym is) ∙ sym e)
 
 -- no entries are no rows
 pub empty-view : {K X : Type 0} {R : K → K → Ordering} (es : List (K × X)) → es ≡ [] → from_entries {R = R} es ≡ empty

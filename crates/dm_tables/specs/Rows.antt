@@ -1,6 +1,7 @@
 -- What is said of the rows of a table, whatever its keys are.
-use Rattle.std.specs.Prelude.{◌≡◌, Bool, false, Option, None, Some, List, [], ◌∷◌}
+use Rattle.std.specs.Prelude.{◌≡◌, Bool, true, false, Option, None, Some, List, [], ◌∷◌, slice_get, filter}
 use Rattle.std.specs.List.{list_any}
+use Rattle.std.specs.Ordering.{is_lt}
 use Rattle.std.specs.declared.cmp.Ordering.{Ordering}
 use Rattle.std.specs.FinMap as map
 
@@ -13,6 +14,11 @@ passes p k (Some x) = p k x
 abbrev pub changed : {K X Y : Type 0} → (K → X → Y) → List (K × X) → List (K × Y)
 changed f [] = []
 changed f (e ∷ es) = (e.0, f e.0 e.1) ∷ changed f es
+
+-- whether a key lies past k, or past none
+abbrev pub is_past : {K : Type 0} → (K → K → Ordering) → Option K → K → Bool
+is_past R None q = true
+is_past R (Some k) q = is_lt (R k q)
 
 module _ {K X : Type 0} {R : K → K → Ordering} where
   -- P holds of each key and the row there
@@ -35,3 +41,7 @@ module _ {K X : Type 0} {R : K → K → Ordering} where
   -- each row is changed by f
   unfoldable pub map_values : {Y : Type 0} → (K → X → Y) → map.FinMap R X → map.FinMap R Y
   map_values f m = map.from_entries (changed f (map.entries m))
+
+  -- the first of the rows that lie past k, or of all
+  unfoldable pub row_after : map.FinMap R X → Option K → Option (K × X)
+  row_after m k = slice_get (filter (λ e. is_past R k e.0) (map.entries m)) 0

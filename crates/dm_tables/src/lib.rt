@@ -4,9 +4,13 @@
 //! logarithm of what the table has. Only a row at a new key takes memory.
 #![tactic(auto)]
 
+mod copied;
+mod each;
 mod numbers;
 mod texts;
 
+pub use copied::Copied;
+pub use each::{Change, Test, Weight};
 pub use numbers::Numbers;
 pub use texts::Texts;
 

@@ -2,16 +2,18 @@
 
 ghost use Rattle.std.specs.Prelude.{◌≡◌, ◌^◌, ◌<◌, ℕ, is_some, IsTrue, ◌↔◌, IfNone, OnOk, OnErr, OnSome};
 ghost use Rattle.std.specs.List.{All};
-ghost use Rattle.std.specs.Option.{option_copied};
+ghost use Rattle.std.specs.Option.{option_copied, option_map};
 ghost use Rattle.std.specs.FinMap as map;
 ghost use Rattle.std.specs.Map.Iter.{ShowsInOrder, deref_pair};
+ghost use Rattle.dm_tables.specs.Rows.{row_after};
 
 use dm_base::NoMemory;
 use std::alloc::Global;
 use std::collections::BTreeMap;
-use std::collections::btree_map::Iter;
+use std::collections::btree_map::{IntoIter, Iter};
 use std::marker::Model;
 use std::mem;
+use std::ops::Bound;
 
 /// Rows by their numbers.
 #[derive(Drop)]
@@ -90,6 +92,16 @@ impl<V> Numbers<V> {
         self.rows.remove(&key)
     }
 
+    // The rows with their numbers, moved out, in the order of the numbers.
+    pub(crate) fn into_entries(self) -> IntoIter<u128, V>
+    where
+        V: Drop,
+        ensures { result ≡ map.entries self }
+    {
+        let Numbers { rows } = self;
+        rows.into_iter()
+    }
+
     /// How many rows there are.
     pub fn len(&self) -> usize
         ensures len { result ≡ map.len self.now }
@@ -113,5 +125,20 @@ impl<V> Numbers<V> {
         ensures small { map.len self.now < 2 ^ 63 }
     {
         self.rows.iter()
+    }
+
+    /// The first row past this number, or the first of all; none where no row is left. So a loop goes
+    /// over the rows and changes the table on its way.
+    pub fn first_after(&self, key: Option<u128>) -> Option<(u128, &V)>
+        ensures { option_map (λ p. (p.0, p.1.now)) result ≡ row_after self.now key }
+    {
+        let start = match key {
+            Some(key) => Bound::Excluded(key),
+            None => Bound::Unbounded,
+        };
+        match self.rows.range((start, Bound::Unbounded)).next() {
+            Some((key, row)) => Some((*key, row)),
+            None => None,
+        }
     }
 }

@@ -2,10 +2,12 @@
 
 ghost use Rattle.std.specs.Prelude.{◌≡◌, ◌^◌, ◌<◌, ℕ, List, is_some, IsTrue, ◌↔◌, IfNone, OnOk, OnErr, OnSome};
 ghost use Rattle.std.specs.List.{All};
-ghost use Rattle.std.specs.Option.{option_copied};
+ghost use Rattle.std.specs.Option.{option_copied, option_map};
 ghost use Rattle.std.specs.FinMap as map;
 ghost use Rattle.std.specs.Map.Iter.{ShowsInOrder, deref_pair};
+ghost use Rattle.dm_tables.specs.Rows.{any as any_row, row_after};
 
+use crate::each::Test;
 use dm_base::{Bytes, NoMemory};
 use std::alloc::Global;
 use std::cmp::Ordering;
@@ -13,6 +15,7 @@ use std::collections::BTreeMap;
 use std::collections::btree_map::{Comparable, Iter};
 use std::marker::Model;
 use std::mem;
+use std::ops::Bound;
 
 /// Rows by a text: a path, the name of a dump, a serial number.
 #[derive(Drop)]
@@ -115,6 +118,33 @@ impl<V> Texts<V> {
         ensures small { map.len self.now < 2 ^ 63 }
     {
         self.rows.iter()
+    }
+
+    /// The first row past this text, or the first of all; none where no row is left. So a loop goes
+    /// over the rows and changes the table on its way.
+    pub fn first_after(&self, key: Option<&Bytes>) -> Option<(&Bytes, &V)>
+        ensures { option_map (λ p. (p.0.now, p.1.now)) result ≡ row_after self.now (option_copied key.entry) }
+    {
+        let start = match key {
+            Some(key) => Bound::Excluded(key),
+            None => Bound::Unbounded,
+        };
+        match self.rows.range((start, Bound::Unbounded)).next() {
+            Some((key, row)) => Some((key, row)),
+            None => None,
+        }
+    }
+
+    /// Whether some row passes.
+    pub fn any<T: Test<V>>(&self, test: &T) -> bool
+        ensures { result ≡ any_row (λ _. T.passes test.now) self.now }
+    {
+        for (_, row) in self.entries() {
+            if test.test(row) {
+                return true;
+            }
+        }
+        false
     }
 }
 
