@@ -8,6 +8,7 @@
 mod answer;
 mod call;
 mod guards;
+mod layout;
 mod plan;
 mod state;
 
