@@ -11,6 +11,7 @@ mod guards;
 mod layout;
 mod plan;
 mod state;
+mod volumes;
 
 pub use answer::Answer;
 pub use call::{Call, Component, DaemonCall, Event, GroupCall, VolumeCall};
