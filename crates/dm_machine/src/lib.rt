@@ -7,6 +7,7 @@
 
 mod answer;
 mod call;
+mod group_plans;
 mod guards;
 mod layout;
 mod plan;

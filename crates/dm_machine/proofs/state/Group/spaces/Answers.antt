@@ -16,7 +16,7 @@ loop-text-preserved c =
 pub loop-text-preserved-in-Continue-1 : goal.loop-text-preserved-in-Continue-1
 loop-text-preserved-in-Continue-1 c =
     let group = c.args.self.now in
-    opened_more group c.loop-text.spaces.items c.push.new.self.items c.loop-text.text-iterator c.next.new.self c.in-Some.text.now c.in-Some.row.now _ c.in-Some.ensures.steps (c.in-Some-space_if.ensures.is ∙ ap (λ t. of_serial t (space_if group t c.in-Some.row.now c.in-Some.row.now.held)) c.as_slice.ensures) c.in-Some-2.ensures.wide c.in_ok-push.ensures.items c.loop-text.invariant
+    opened_more group c.loop-text.spaces.items c.push.new.self.items c.loop-text.text-iterator c.next.new.self c.in-Some.text.now c.in-Some.row.now _ c.in-Some.ensures.steps (c.in-Some-space_if.ensures.is ∙ ap (λ t. of_serial t (space_if group t c.in-Some.row.now c.in-Some.row.now.held)) c.as_slice.ensures) c.in-Some-space_if.ensures.wide c.in_ok-push.ensures.items c.loop-text.invariant
 
 pub returns-clause-is : goal.returns-clause-is
 returns-clause-is c = c.from_vec.ensures ∙ opened_end c.args.self.now c.loop-text.spaces.items _ c.in-None.ensures.steps.0 c.loop-text.invariant
