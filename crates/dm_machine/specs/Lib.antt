@@ -1,6 +1,7 @@
 pub mod Tests
 pub mod Plan
 pub mod Files
+pub mod Laid
 pub mod Volumes
 pub mod Effects
 pub mod DaemonCalls

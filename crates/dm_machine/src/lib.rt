@@ -12,7 +12,9 @@ mod copies;
 mod daemon_plans;
 mod endings;
 mod files;
+mod group_plans;
 mod guards;
+mod layout;
 mod limits;
 mod marks;
 mod openings;
@@ -23,6 +25,7 @@ mod puts;
 mod recalls;
 mod state;
 mod step;
+mod volumes;
 mod work;
 mod writes;
 
