@@ -1,6 +1,6 @@
 pub mod Changed
 pub mod Places
-pub mod Reads
+pub mod ReadNotes
 pub mod Tips
 pub mod Plans
 pub mod Layouts

@@ -1,4 +1,4 @@
-use Rattle.dm_machine.proofs.Reads.{noted_reads}
+use Rattle.dm_machine.proofs.ReadNotes.{noted_reads}
 use Rattle.dm_machine.proofs.marks.Read.added_to.Goals as goal
 
 pub returns : goal.returns
