@@ -13,8 +13,9 @@ end_sum a b c d e zone count k len a_is b_is c_is d_is count_is e_is =
     omega arith
 
 -- chunks of no bytes
-pub count_of_none : (chunk n : ℕ) → chunk ≡ 0 → min 1 n ≡ chunk_count chunk n
+pub count_of_none : (chunk n : ℕ) → chunk ≡ 0 → min n 1 ≡ chunk_count chunk n
 count_of_none chunk n none =
     let at_zero : n / 0 + min 1 (n % 0) ≡ min 1 n =
     ap (λ (q : ℕ). q + min 1 (n % 0)) (div-zero n) ∙ ap (λ (r : ℕ). 0 + min 1 r) (mod-zero n) ∙ zero-add (min 1 n) in
-    subst (λ (d : ℕ). min 1 n ≡ n / d + min 1 (n % d)) (sym none) (sym at_zero)
+    let turned : min n 1 ≡ min 1 n = omega arith in
+    turned ∙ subst (λ (d : ℕ). min 1 n ≡ n / d + min 1 (n % d)) (sym none) (sym at_zero)

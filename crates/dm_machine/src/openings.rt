@@ -257,7 +257,7 @@ fn chunk_count(chunk: u64, len: u64) -> u64
     ensures { result ≡ chunk_count_of chunk len }
 {
     if chunk == 0 {
-        return 1.min(len);
+        return len.min(1);
     }
     len.div_ceil(chunk)
 }
