@@ -1,9 +1,10 @@
 //! What each call of a group comes to.
 
-ghost use Rattle.std.specs.Prelude.{◌≡◌, ◌∷◌, [], None, Some, false, true, IfOk, option_map};
+ghost use Rattle.std.specs.Prelude.{◌≡◌, ◌∷◌, [], nat_eq, None, Some, false, true, IfOk, option_map};
 ghost use Rattle.std.specs.FinMap as map;
+ghost use Rattle.std.specs.List.{list_any};
 ghost use Rattle.std.specs.Option.{option_copied};
-ghost use Rattle.dm_machine.specs.GroupCalls.{abort as abort_plan, add_volume as add_volume_plan, all_written as all_written_of, are_written as are_written_of, commit as commit_plan, group_journalled, group_plan, is_labelled as is_labelled_of, is_none, is_part as is_part_of, is_zone_of as is_zone_of_piece, may_reserve as may_reserve_of, is_new as is_new_of, missing as missing_plan, mount_chunk_in, mount_chunk as mount_chunk_plan, mount_new as mount_new_plan, mount_piece as mount_piece_plan, mounting, no_mounts as no_mounts_of, recalls_from as recalls_from_of, reservation_in, reserve as reserve_plan, side_plan, unmount as unmount_plan, volumes as volumes_plan};
+ghost use Rattle.dm_machine.specs.GroupCalls.{abort as abort_plan, add_volume as add_volume_plan, all_written as all_written_of, are_written as are_written_of, commit as commit_plan, group_journalled, group_plan, is_labelled as is_labelled_of, is_none, is_part as is_part_of, is_zone_of as is_zone_of_piece, may_reserve as may_reserve_of, is_new as is_new_of, missing as missing_plan, mount_chunk_in, mount_chunk_of, mount_piece_of, mount_chunk as mount_chunk_plan, mount_new as mount_new_plan, mount_piece as mount_piece_plan, mounting, no_mounts as no_mounts_of, recalls_from as recalls_from_of, reservation_in, reserve as reserve_plan, side_plan, unmount as unmount_plan, volumes as volumes_plan};
 ghost use Rattle.dm_rules.specs.Numbers.{narrowed};
 ghost use Rattle.dm_machine.specs.Plan.{prepared};
 ghost use Rattle.dm_machine.specs.Tests.{first_true, lowest_false};
@@ -23,7 +24,7 @@ use crate::state::{
     Group, Joint, MountState, Origin, Recall, Reserved, Side, WrittenZone,
 };
 use crate::volumes::{chunk_at, free_slot, is_listed, least_missing, piece_at};
-use dm_base::{Bfid, Bytes, GroupError, GroupId, NoMemory, Piece, Secs, Vsn};
+use dm_base::{Bfid, Bytes, Chunk, GroupError, GroupId, NoMemory, Piece, Secs, Vsn};
 use dm_state::{GroupRecord, GroupStep};
 use dm_tables::{Numbers, Test};
 use dm_zone::encode_zone;
@@ -272,9 +273,23 @@ impl Group {
         let Some(reserved) = self.reservations.get(u128::from(reservation)) else {
             return illegal(group, 2);
         };
-        let Some(piece) = piece_at(reserved.pieces.as_slice(), index) else {
-            return illegal(group, 12);
-        };
+        match piece_at(reserved.pieces.as_slice(), index) {
+            None => illegal(group, 12),
+            Some(piece) => self.mount_piece_of(group, reserved, index, number, piece),
+        }
+    }
+
+    // The mount of a piece of the reservation.
+    fn mount_piece_of(
+        &self,
+        group: GroupId,
+        reserved: &Reserved,
+        index: u64,
+        number: u64,
+        piece: Piece,
+    ) -> Prepared
+        ensures { result ≡ prepared (mount_piece_of group self.now reserved.now index number (Some piece)) }
+    {
         let origin = Origin::Piece {
             bfid: reserved.bfid,
             index,
@@ -313,9 +328,23 @@ impl Group {
                 Answer::AtEnd,
             );
         }
-        let Some(chunk) = chunk_at(row.chunks.as_slice(), offset) else {
-            return no_chunk(group, recalled);
-        };
+        match chunk_at(row.chunks.as_slice(), offset) {
+            None => no_chunk(group, recalled),
+            Some(chunk) => self.mount_chunk_of(group, recalled, bfid, number, chunk),
+        }
+    }
+
+    // The mount of a chunk of the bitfile.
+    fn mount_chunk_of(
+        &self,
+        group: GroupId,
+        recalled: bool,
+        bfid: Bfid,
+        number: u64,
+        chunk: Chunk,
+    ) -> Prepared
+        ensures { result ≡ prepared (record (mount_chunk_of group self.now bfid number (Some chunk)) { token = (recalled, 13) ∷ [] }) }
+    {
         let mount = self.mount_of(chunk.vsn, Origin::Chunk { bfid, chunk });
         let answer = Answer::AtChunk {
             mount: number,
@@ -352,8 +381,18 @@ impl Test<Recall> for AsksGroup {
     ghost passes = { λ t r. asks_group t.bfid.0 t.group.0 r };
 
     fn test(&self, row: &Recall) -> bool {
-        row.bfid.0 == self.bfid.0 && row.asked.as_slice().iter().any(|g| g.0 == self.group.0)
+        row.bfid.0 == self.bfid.0 && asks(row, self.group)
     }
+}
+
+fn asks(recall: &Recall, group: GroupId) -> bool
+    ensures { result ≡ list_any (λ h. nat_eq h.0 group.0) recall.now.asked }
+{
+    recall
+        .asked
+        .as_slice()
+        .iter()
+        .any(|asked| asked.0 == group.0)
 }
 
 impl Joint {
@@ -559,14 +598,28 @@ fn are_written(
     ensures { IfOk result (λ b. b ≡ are_written_of bytes.now reserved.now written.now 0 reserved.now.pieces) }
 {
     for (index, piece) in reserved.pieces.as_slice().iter().enumerate() {
-        let Some(zone) = written.get(index as u128) else {
-            return Ok(false);
-        };
-        if !is_zone_of(alloc, bytes, reserved, *piece, zone)? {
+        if !is_written(alloc, bytes, reserved, *piece, written, index)? {
             return Ok(false);
         }
     }
     Ok(true)
+}
+
+// Whether the piece, which has this place in the list, was written last with its zone.
+fn is_written(
+    alloc: Global,
+    bytes: &[u8],
+    reserved: &Reserved,
+    piece: Piece,
+    written: &Numbers<WrittenZone>,
+    index: usize,
+) -> Result<bool, NoMemory>
+    ensures { IfOk result (λ b. b ≡ is_zone_of_piece bytes.now reserved.now piece (map.get written.now index)) }
+{
+    match written.get(index as u128) {
+        None => Ok(false),
+        Some(zone) => is_zone_of(alloc, bytes, reserved, piece, zone),
+    }
 }
 
 // Whether this is the zone of the piece of these bytes.
@@ -611,7 +664,7 @@ fn is_part(bytes: &[u8], reserved: &Reserved, piece: Piece) -> bool
     piece.len.div_ceil(chunk) <= u64::from(u32::MAX)
 }
 
-fn is_new(origin: Origin) -> bool
+pub(crate) fn is_new(origin: Origin) -> bool
     ensures { result ≡ is_new_of origin }
 {
     match origin {

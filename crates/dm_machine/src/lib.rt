@@ -12,6 +12,7 @@ mod guards;
 mod layout;
 mod plan;
 mod state;
+mod volume_plans;
 mod volumes;
 
 pub use answer::Answer;
