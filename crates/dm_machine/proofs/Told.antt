@@ -1,5 +1,5 @@
 -- Loops over a group's volumes and bitfiles.
-use Rattle.std.proofs.Common.{◌≡◌, ℕ, zero, suc, ◌+◌, ◌-◌, ◌<◌, ◌≤◌, ◌%◌, min, List, [], ◌∷◌, ◌++◌, length, get_or, drop, refl, sym, ap, subst, ◌∙◌, append_assoc, arith, Bool, true, false, cond, nat_eq, Option, Some, None, ◌⊎◌, inl, inr}
+use Rattle.std.proofs.Common.{◌≡◌, ℕ, zero, suc, ◌+◌, ◌-◌, ◌<◌, ◌≤◌, ◌%◌, min, List, [], ◌∷◌, ◌++◌, length, get_or, drop, refl, sym, ap, subst, ◌∙◌, append_assoc, arith, Bool, true, false, cond, nat_eq, ◌&&◌, Option, Some, None, ◌⊎◌, inl, inr}
 use Rattle.std.specs.List.{flat_map, AllByRecursion}
 use Rattle.std.specs.Option.{option_to_list}
 use Rattle.std.specs.FinMap as map
@@ -11,6 +11,7 @@ use Rattle.dm_base.specs.declared.volume.Piece.{Piece}
 use Rattle.dm_base.specs.declared.volume.VolRow.{VolRow}
 use Rattle.dm_rules.specs.declared.space.Space.{Space}
 use Rattle.dm_rules.specs.Numbers.{narrowed}
+use Rattle.dm_rules.specs.Known.{Known, agrees, may_be}
 use Rattle.dm_state.specs.declared.group.VolumeRow.{VolumeRow}
 use Rattle.dm_state.specs.declared.group.BitfileRow.{BitfileRow}
 use Rattle.dm_state.specs.Tables.{Named, Numbered}
@@ -18,7 +19,9 @@ use Rattle.dm_tables.specs.Totals.{sum_of, total}
 use Rattle.dm_tables.specs.Rows.{any}
 use Rattle.dm_tables.proofs.Sums.{total-entries}
 use Rattle.dm_machine.specs.declared.state.Group.{Group}
-use Rattle.dm_machine.specs.GroupCalls.{piece_at}
+use Rattle.dm_machine.specs.declared.state.Reserved.{Reserved}
+use Rattle.dm_machine.specs.declared.state.WrittenZone.{WrittenZone}
+use Rattle.dm_machine.specs.GroupCalls.{piece_at, is_zone_of, are_written}
 use Rattle.dm_machine.specs.Laid.{IsOpen}
 use Rattle.dm_machine.specs.Volumes.{same_text, space_if, spaces, of_serial, volume_row, all_volumes, chunk_at, live_in, live_on, free_slot, serial_of}
 use Rattle.dm_rules.specs.Room.{room, held}
@@ -175,3 +178,26 @@ open_room s size (suc n) is small =
         zone = λ some. omega (arith, g, small, room_fits size s.tip (suc n) s.room g (is ∙ room_some size s.tip (suc n) g) (omega arith));
       }
     ]
+
+-- ---- written zones
+pub written_on : (bytes : List ℕ) (r : Reserved) (written : Numbered WrittenZone) (k : ℕ) (ps rest : List Piece) (p : Piece) (whole : Bool) → ps ≡ p ∷ rest → is_zone_of bytes r p (map.get written k) ≡ true → are_written bytes r written k ps ≡ whole → are_written bytes r written (k + 1) rest ≡ whole
+written_on bytes r written k ps rest p whole is here so = sym (ap (are_written bytes r written k) is ∙ ap (λ b. b && are_written bytes r written (k + 1) rest) here) ∙ so
+
+pub written_not : (bytes : List ℕ) (r : Reserved) (written : Numbered WrittenZone) (k : ℕ) (ps rest : List Piece) (p : Piece) (whole : Bool) → ps ≡ p ∷ rest → is_zone_of bytes r p (map.get written k) ≡ false → are_written bytes r written k ps ≡ whole → false ≡ whole
+written_not bytes r written k ps rest p whole is here so = sym (ap (are_written bytes r written k) is ∙ ap (λ b. b && are_written bytes r written (k + 1) rest) here) ∙ so
+
+pub written_end : (bytes : List ℕ) (r : Reserved) (written : Numbered WrittenZone) (k : ℕ) (ps : List Piece) (whole : Bool) → ps ≡ [] → are_written bytes r written k ps ≡ whole → true ≡ whole
+written_end bytes r written k ps whole none so = sym (ap (are_written bytes r written k) none) ∙ so
+
+-- ---- known bytes
+pub agrees_on : (known : Known) (at next : ℕ) (bs rest : List ℕ) (b : ℕ) (whole : Bool) → bs ≡ b ∷ rest → next ≡ at + 1 → may_be (map.get known at) b ≡ true → agrees known at bs ≡ whole → agrees known next rest ≡ whole
+unfolding agrees
+agrees_on known at next bs rest b whole is one here so = ap (λ n. agrees known n rest) one ∙ sym (ap (agrees known at) is ∙ ap (λ t. t && agrees known (at + 1) rest) here) ∙ so
+
+pub agrees_not : (known : Known) (at : ℕ) (bs rest : List ℕ) (b : ℕ) (whole : Bool) → bs ≡ b ∷ rest → may_be (map.get known at) b ≡ false → agrees known at bs ≡ whole → false ≡ whole
+unfolding agrees
+agrees_not known at bs rest b whole is here so = sym (ap (agrees known at) is ∙ ap (λ t. t && agrees known (at + 1) rest) here) ∙ so
+
+pub agrees_end : (known : Known) (at : ℕ) (bs : List ℕ) (whole : Bool) → bs ≡ [] → agrees known at bs ≡ whole → true ≡ whole
+unfolding agrees
+agrees_end known at bs whole none so = sym (ap (agrees known at) none) ∙ so

@@ -25,6 +25,7 @@ mod puts;
 mod recalls;
 mod state;
 mod step;
+mod volume_plans;
 mod volumes;
 mod work;
 mod writes;
