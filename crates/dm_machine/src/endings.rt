@@ -58,7 +58,11 @@ fn copies_closed(
 {
     match groups {
         [] => Ok(sides),
-        [group, rest @ ..] => copies_closed(copy_gone(sides, u128::from(group.0), bfid)?, bfid, rest),
+        [group, rest @ ..] => copies_closed(
+            copy_gone(sides, u128::from(group.0), bfid)?,
+            bfid,
+            rest,
+        ),
     }
 }
 
@@ -110,7 +114,11 @@ fn reservation_closed(
     Ok(sides)
 }
 
-fn mount_closed(mut sides: Numbers<Side>, group: u128, number: u64) -> Result<Numbers<Side>, NoMemory>
+fn mount_closed(
+    mut sides: Numbers<Side>,
+    group: u128,
+    number: u64,
+) -> Result<Numbers<Side>, NoMemory>
     ensures { IfOk result (λ t. t ≡ adjust sides group (mount_closed_of number)) }
 {
     let Some(side) = sides.remove(group) else {

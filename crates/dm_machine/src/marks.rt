@@ -267,12 +267,7 @@ impl Side {
         Ok(self)
     }
 
-    fn piece_written(
-        mut self,
-        bfid: Bfid,
-        index: u64,
-        zone: WrittenZone,
-    ) -> Result<Side, NoMemory>
+    fn piece_written(mut self, bfid: Bfid, index: u64, zone: WrittenZone) -> Result<Side, NoMemory>
         ensures { IfOk result (λ s. s ≡ piece_written bfid.0 index zone.epoch zone.zone self) }
     {
         self.copies = work::written(self.copies, bfid.0, index, zone)?;

@@ -43,7 +43,13 @@ impl Joint {
                 recall,
             } => {
                 self.daemon.requests.insert(u128::from(number), request)?;
-                self.workers = recall_opened(alloc, self.workers, u128::from(worker), number, recall)?;
+                self.workers = recall_opened(
+                    alloc,
+                    self.workers,
+                    u128::from(worker),
+                    number,
+                    recall,
+                )?;
                 Ok(self)
             }
             Opening::Reservation {

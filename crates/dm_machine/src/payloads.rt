@@ -234,7 +234,11 @@ impl Daemon {
         ensures { IfOk result (λ d. d ≡ record self { contents = contents_after self step.now }) }
     {
         match step {
-            DaemonStep::BeginPut { path, bfid, .. } => self.content_kept(alloc, path.bytes(), *bfid),
+            DaemonStep::BeginPut { path, bfid, .. } => self.content_kept(
+                alloc,
+                path.bytes(),
+                *bfid,
+            ),
             DaemonStep::Write { .. } => Ok(self),
             DaemonStep::Remove { .. } => Ok(self),
             DaemonStep::Stored { .. } => Ok(self),

@@ -218,8 +218,15 @@ fn added(
     let missing = next(joint, alloc, of_group(GroupCall::Missing))?;
     assert!(rt; matches!(missing, Answer::Missing { vsn: Some(found) } if found == vsn));
     let mounted = next(joint, alloc, mount_new(vsn, mount))?;
-    assert!(rt; matches!(mounted, Answer::Mounted { mount: m, vsn: v, epoch: 1 } if m == mount && v == vsn));
-    assert!(rt; matches!(next(joint, alloc, relabel(vsn, mount, 1))?, Answer::Labelled));
+    assert!(rt;
+        matches!(mounted, Answer::Mounted { mount: m, vsn: v, epoch: 1 } if m == mount && v == vsn)
+    );
+    assert!(rt;
+        matches!(
+            next(joint, alloc, relabel(vsn, mount, 1))?,
+            Answer::Labelled
+        )
+    );
     assert!(rt; matches!(next(joint, alloc, add_volume(mount))?, Answer::VolumeAdded));
     Ok(())
 }
@@ -273,7 +280,9 @@ fn reserved(rt: &impl Abort, alloc: Global) -> Result<Joint, Fail> {
 fn mounted(rt: &impl Abort, alloc: Global) -> Result<Joint, Fail> {
     let mut joint = reserved(rt, alloc)?;
     let mounted = next(&mut joint, alloc, mount_piece(0))?;
-    assert!(rt; matches!(mounted, Answer::Mounted { mount: 4, vsn, epoch: 1 } if vsn == VOLUMES[0]));
+    assert!(rt;
+        matches!(mounted, Answer::Mounted { mount: 4, vsn, epoch: 1 } if vsn == VOLUMES[0])
+    );
     Ok(joint)
 }
 
@@ -425,9 +434,22 @@ fn a_put_finds_no_room(rt: HostRuntime) -> Result<(), Fail> {
     let Answer::GroupRefused { error } = next(&mut joint, alloc, reserve(841))? else {
         return Err("there was room")?;
     };
-    assert_eq!(rt; error, GroupError::NoRoom { have: 840, need: 841 });
+    assert_eq!(rt;
+        error,
+        GroupError::NoRoom {
+            have: 840,
+            need: 841
+        }
+    );
     let ended = next(&mut joint, alloc, end_put(1))?;
-    assert!(rt; matches!(ended, Answer::PutEnded { end: PutEnd::Regular }));
+    assert!(rt;
+        matches!(
+            ended,
+            Answer::PutEnded {
+                end: PutEnd::Regular
+            }
+        )
+    );
     Ok(())
 }
 
@@ -504,7 +526,12 @@ fn a_commit_that_fails_spends_the_room(rt: HostRuntime) -> Result<(), Fail> {
 fn guards_of_the_daemon(rt: HostRuntime) -> Result<(), Fail> {
     let alloc = rt.alloc();
     let mut joint = begun(&rt, alloc)?;
-    assert!(rt; matches!(next(&mut joint, alloc, asks(write(alloc, "/b", b"b")?))?, Answer::Changed { .. }));
+    assert!(rt;
+        matches!(
+            next(&mut joint, alloc, asks(write(alloc, "/b", b"b")?))?,
+            Answer::Changed { .. }
+        )
+    );
     assert_eq!(rt; broken(&mut joint, alloc, 1, end_put(9)), Some(2));
     for (asked, request, guard) in [
         ([Some(ONE), None], 1, 2),
@@ -519,8 +546,14 @@ fn guards_of_the_daemon(rt: HostRuntime) -> Result<(), Fail> {
     let mut joint = reserved(&rt, alloc)?;
     assert_eq!(rt; broken(&mut joint, alloc, 1, end_put(1)), Some(6));
     let mut joint = read(&rt, alloc)?;
-    assert_eq!(rt; broken(&mut joint, alloc, 1, end_recall(alloc, b"jello")?), Some(7));
-    assert_eq!(rt; broken(&mut joint, alloc, 2, end_recall(alloc, b"hello")?), Some(7));
+    assert_eq!(rt;
+        broken(&mut joint, alloc, 1, end_recall(alloc, b"jello")?),
+        Some(7)
+    );
+    assert_eq!(rt;
+        broken(&mut joint, alloc, 2, end_recall(alloc, b"hello")?),
+        Some(7)
+    );
     Ok(())
 }
 
@@ -535,10 +568,21 @@ fn guards_of_a_group(rt: HostRuntime) -> Result<(), Fail> {
         },
     };
     assert_eq!(rt; broken(&mut joint, alloc, 1, elsewhere), Some(1));
-    assert_eq!(rt; broken(&mut joint, alloc, 1, mount_new(Vsn(*b"ZZ0001"), 1)), Some(9));
-    assert!(rt; matches!(next(&mut joint, alloc, mount_new(VOLUMES[0], 1))?, Answer::Mounted { .. }));
+    assert_eq!(rt;
+        broken(&mut joint, alloc, 1, mount_new(Vsn(*b"ZZ0001"), 1)),
+        Some(9)
+    );
+    assert!(rt;
+        matches!(
+            next(&mut joint, alloc, mount_new(VOLUMES[0], 1))?,
+            Answer::Mounted { .. }
+        )
+    );
     assert_eq!(rt; broken(&mut joint, alloc, 1, add_volume(1)), Some(10));
-    assert_eq!(rt; broken(&mut joint, alloc, 1, relabel(VOLUMES[0], 1, 2)), Some(24));
+    assert_eq!(rt;
+        broken(&mut joint, alloc, 1, relabel(VOLUMES[0], 1, 2)),
+        Some(24)
+    );
     let mut joint = begun(&rt, alloc)?;
     assert_eq!(rt; broken(&mut joint, alloc, 1, reserve(6)), Some(11));
     Ok(())
@@ -553,10 +597,16 @@ fn guards_of_a_copy(rt: HostRuntime) -> Result<(), Fail> {
     let mut joint = mounted(&rt, alloc)?;
     let abort = of_group(GroupCall::Abort { reservation: 1 });
     assert_eq!(rt; broken(&mut joint, alloc, 1, abort), Some(15));
-    assert_eq!(rt; broken(&mut joint, alloc, 1, write_zone(alloc, 65)?), Some(22));
+    assert_eq!(rt;
+        broken(&mut joint, alloc, 1, write_zone(alloc, 65)?),
+        Some(22)
+    );
     let mut joint = released(&rt, alloc)?;
     assert_eq!(rt; broken(&mut joint, alloc, 1, mount_chunk(0, 5)), Some(13));
     let mut joint = chunk_mounted(&rt, alloc)?;
-    assert_eq!(rt; broken(&mut joint, alloc, 1, read_chunk(alloc, b"jello")?), Some(23));
+    assert_eq!(rt;
+        broken(&mut joint, alloc, 1, read_chunk(alloc, b"jello")?),
+        Some(23)
+    );
     Ok(())
 }

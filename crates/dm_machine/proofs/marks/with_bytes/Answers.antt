@@ -11,10 +11,11 @@ loop-left-preserved c =
     let so_far = c.loop-left.invariant in
     let i : ℕ = c.loop-left.left - 1 in
     let b : ℕ = get_or c.args.bytes.now (c.loop-left.left - 1) 0 in
-    let within = so_far.0 in
-    (omega arith,
-     written_on c.args.place (c.loop-left.left - 1) c.loop-left.left b c.args.bytes.now c.args.known c.loop-left.known c.insert.new.self (omega arith) (omega arith) refl so_far.1
-     (c.in_ok-insert.ensures.ok ∙ ap (λ (p : ℕ). map.insert c.loop-left.known (p + (c.loop-left.left - 1)) b) c.from.ensures))
+    let within = so_far.0 in (
+      omega arith,
+      written_on c.args.place (c.loop-left.left - 1) c.loop-left.left b c.args.bytes.now c.args.known c.loop-left.known c.insert.new.self (omega arith) (omega arith) refl so_far.1
+          (c.in_ok-insert.ensures.ok ∙ ap (λ (p : ℕ). map.insert c.loop-left.known (p + (c.loop-left.left - 1)) b) c.from.ensures),
+    )
 
 pub returns : goal.returns
 returns c = written_end c.args.place c.loop-left.left c.args.bytes.now c.args.known c.loop-left.known (omega arith) c.loop-left.invariant.1
