@@ -3,7 +3,7 @@ use Rattle.std.proofs.Common.{◌≡◌, ℕ, List, [], ◌∷◌, ◌++◌, len
 use Rattle.std.specs.Borrow.{Bor}
 use Rattle.std.specs.List.{AllByRecursion}
 use Rattle.dm_host.specs.Disk.{Disk}
-use Rattle.dm_journal.specs.declared.error.LoadError.{LoadError}
+use Rattle.dm_base.specs.declared.error.LoadError.{LoadError}
 use Rattle.dm_journal.specs.Grammar.{Fits, AtRest}
 use Rattle.dm_journal.specs.Load.{LoadAt, Reading, Advances, Finds, Gives, moved, loading_at}
 use Rattle.dm_journal.specs.State.{At, Keeps, settled_at}

@@ -5,8 +5,8 @@ use Rattle.std.specs.Int.{w32, to_be_bytes}
 use Rattle.std.specs.List.{AllByRecursion}
 use Rattle.dm_host.specs.Count.{Rose}
 use Rattle.dm_host.specs.Disk.{Disk, Only, part}
-use Rattle.dm_journal.specs.declared.error.LoadError.{LoadError}
-use Rattle.dm_journal.specs.declared.error.LoadError.TheVariants.{Failed}
+use Rattle.dm_base.specs.declared.error.LoadError.{LoadError}
+use Rattle.dm_base.specs.declared.error.LoadError.TheVariants.{Failed}
 use Rattle.dm_journal.specs.Grammar.{longest, Fits, inner, frames}
 use Rattle.dm_journal.specs.State.{Keeps, settled_at}
 

@@ -6,13 +6,12 @@
 //! has no meaning. An append writes the frame with the next gate closed, syncs, opens the gate before it, and syncs.
 #![tactic(auto)]
 
-mod error;
 mod frame;
 mod journal;
 mod loading;
 mod reading;
 
-pub use error::LoadError;
+pub use dm_base::LoadError;
 pub use journal::Journal;
 pub use loading::Loading;
 

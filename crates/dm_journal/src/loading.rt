@@ -2,7 +2,8 @@
 ghost use Rattle.std.specs.Prelude.{◌≡◌, ◌+◌, ◌<◌, ◌≤◌, ◌^◌, ℕ, List, [], vec_capacity, IsTrue, IfOk, OnOk, IsErr, IsErrOf, ⊤};
 ghost use Rattle.dm_host.specs.Disk.{Same};
 ghost use Rattle.dm_host.specs.Works.{Works, File, Follows};
-ghost use Rattle.dm_journal.specs.declared.error.LoadError.TheVariants.{Damaged, NoMemory};
+ghost use Rattle.dm_base.specs.declared.conf.ConfKey.{ConfKey};
+ghost use Rattle.dm_base.specs.declared.error.LoadError.TheVariants.{Conf, Damaged, NoMemory};
 ghost use Rattle.dm_journal.specs.Load.{LoadAt, Reading, Reopens, opened, loading_at, IsDamage, Finds, Gives, HasLoadCause};
 ghost use Rattle.dm_journal.specs.State.{settled_at};
 
@@ -51,10 +52,11 @@ impl Loading {
         ensures any_moment { IsTrue (B.disk bay.old).told → Works (File file) (B.disk bay.old) (B.disk bay.new) (Follows Reopens file (B.disk bay.old)) }
         ensures others { Works (File file) (B.disk bay.old) (B.disk bay.new) (λ x. ⊤) }
         ensures damaged { (f p : ℕ) → IsErrOf result (Damaged f p) → ⊥ }
+        ensures conf { (key : ConfKey) → IsErrOf result (Conf key) → ⊥ }
         ensures cause { HasLoadCause (B.count bay.old) (B.count bay.new) result }
     {
-        let end = open(bay, file)?;
-        let buffer = Vec::with_capacity(alloc, CAPACITY)?;
+        let end = open(bay, file).map_err(|_| LoadError::Failed)?;
+        let buffer = Vec::with_capacity(alloc, CAPACITY).map_err(|_| LoadError::NoMemory)?;
         Ok(Loading {
             file,
             place: 0,
@@ -73,6 +75,7 @@ impl Loading {
         ensures whole { (ps : List (List ℕ)) → Reading (B.disk bay.old) self.old ps → IsDamage ps ((B.disk bay.old).seen self.old.file) → IsErr result }
         ensures place { (f p : ℕ) → IsErrOf result (Damaged f p) → (f ≡ self.old.file) × (p ≡ self.old.place) }
         ensures memory { IsErrOf result NoMemory → ⊥ }
+        ensures conf { (key : ConfKey) → IsErrOf result (Conf key) → ⊥ }
         ensures same { (B.disk bay.new).seen self.old.file ≡ (B.disk bay.old).seen self.old.file }
         ensures any_moment { Works (File self.old.file) (B.disk bay.old) (B.disk bay.new) (Follows Same self.old.file (B.disk bay.old)) }
         ensures cause { HasLoadCause (B.count bay.old) (B.count bay.new) result }

@@ -4,7 +4,8 @@ ghost use Rattle.std.specs.Int.{w32, to_be_bytes};
 ghost use Rattle.dm_host.specs.Count.{HasCause};
 ghost use Rattle.dm_host.specs.Disk.{Only, Same, part};
 ghost use Rattle.dm_host.specs.Works.{Works, File, Follows};
-ghost use Rattle.dm_journal.specs.declared.error.LoadError.TheVariants.{Damaged, NoMemory};
+ghost use Rattle.dm_base.specs.declared.conf.ConfKey.{ConfKey};
+ghost use Rattle.dm_base.specs.declared.error.LoadError.TheVariants.{Conf, Damaged, NoMemory};
 ghost use Rattle.dm_journal.specs.Grammar.{longest, buffer_room};
 ghost use Rattle.dm_journal.specs.Load.{Reading, Reopens, opened, loading_at, IsDamage, Measures, Advances, HasLoadCause};
 
@@ -62,13 +63,15 @@ fn measure<B: Bay>(bay: &mut B, file: u32, place: u64, end: u64) -> Result<Optio
         → (f p : ℕ) → IsErrOf result (Damaged f p) → IsDamage ps ((B.disk bay.old).seen file) }
     ensures place { (f p : ℕ) → IsErrOf result (Damaged f p) → (f ≡ file) × (p ≡ place) }
     ensures memory { IsErrOf result NoMemory → ⊥ }
+    ensures conf { (key : ConfKey) → IsErrOf result (Conf key) → ⊥ }
     ensures range { IfOk result (λ found. IfSome found (λ n. (n ≤ longest) × (place + (n + 6) ≤ end))) }
     ensures same { (B.disk bay.new).seen file ≡ (B.disk bay.old).seen file }
     ensures works { Works (File file) (B.disk bay.old) (B.disk bay.new) (Follows Same file (B.disk bay.old)) }
     ensures cause { HasLoadCause (B.count bay.old) (B.count bay.new) result }
 {
     let mut header = [0; 5];
-    bay.read(file, place, &mut header)?;
+    bay.read(file, place, &mut header)
+        .map_err(|_| LoadError::Failed)?;
     if header[0] != OPEN {
         return Ok(None);
     }
@@ -131,6 +134,7 @@ pub fn advance<B: Bay>(
         → (f p : ℕ) → IsErrOf result (Damaged f p) → IsDamage ps ((B.disk bay.old).seen file) }
     ensures place { (f p : ℕ) → IsErrOf result (Damaged f p) → (f ≡ file) × (p ≡ place) }
     ensures memory { IsErrOf result NoMemory → ⊥ }
+    ensures conf { (key : ConfKey) → IsErrOf result (Conf key) → ⊥ }
     ensures range { IfOk result (λ found. IfSome found (λ n. place + (n + 6) ≤ end)) }
     ensures len { IfOk result (λ found. IfSome found (λ n. n ≡ vec_len buffer.new)) }
     ensures room { buffer_room ≤ vec_capacity buffer.new }
@@ -141,7 +145,7 @@ pub fn advance<B: Bay>(
     match measure(bay, file, place, end)? {
         None => Ok(None),
         Some(n) => {
-            fetch(bay, file, place + 5, n as usize, buffer)?;
+            fetch(bay, file, place + 5, n as usize, buffer).map_err(|_| LoadError::Failed)?;
             Ok(Some(n))
         }
     }

@@ -60,7 +60,10 @@ fn first(alloc: Global, bay: &mut MemBay, file: u32) -> Result<Option<Vec<u8>>, 
     let mut loading = Loading::begin(alloc, bay, file)?;
     match loading.next(bay)? {
         None => Ok(None),
-        Some(payload) => Ok(Some(payload.to_vec(alloc)?)),
+        Some(payload) => match payload.to_vec(alloc) {
+            Ok(copy) => Ok(Some(copy)),
+            Err(_) => Err(LoadError::NoMemory),
+        },
     }
 }
 

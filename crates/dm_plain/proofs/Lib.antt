@@ -1,2 +1,4 @@
 pub mod Laws
 pub mod Entries
+pub mod NamespaceEntries
+pub mod Patching

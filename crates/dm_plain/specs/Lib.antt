@@ -1,2 +1,3 @@
 pub mod Namespace
+pub mod Patching
 pub mod Steps

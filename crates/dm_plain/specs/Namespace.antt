@@ -1,28 +1,64 @@
--- The plain namespace: files by their paths, of which nothing ever moves.
+-- The plain namespace: files by their paths and dumps by their names, of which nothing ever moves.
 use Rattle.std.specs.Prelude.{ℕ, List, Option, refl}
-use Rattle.std.specs.Coded.{Coded, code_by, coded_ℕ, coded_list}
+use Rattle.std.specs.Coded.{Coded, code_by, coded×, coded_ℕ, coded_list}
 use Rattle.std.specs.Cmp.Lexicographic.{slice_cmp}
 use Rattle.std.specs.Ordering.{nat_cmp}
+use Rattle.std.specs.BTreeMap.{BTreeMap}
 use Rattle.std.specs.FinMap as map
 
 -- the files: what the bytes of a path lead to
 abbrev pub Files : Type 0
 Files = map.FinMap (slice_cmp nat_cmp) (List ℕ)
 
-pub record Namespace : Type 0 where
+abbrev pub files_code : Coded Files
+files_code = map.code (coded_list coded_ℕ) (coded_list coded_ℕ)
+
+-- the files that a table has
+abbrev pub files_in : BTreeMap (List ℕ) (List ℕ) → Files
+files_in table = map.from_entries table.entries
+
+-- a dump: when it was made, and the files as they were then
+pub record Dumped : Type 0 where
+  pub made : ℕ
   pub files : Files
 
--- a namespace is stored as its files
+abbrev pub dumped_code : Coded Dumped
+dumped_code = code_by (ℕ × Files) (coded× coded_ℕ files_code) (λ d. (d.made, d.files)) (λ p. record { made = p.0; files = p.1 }) (λ _. refl)
+
+-- the dumps: what the bytes of a name lead to
+abbrev pub Dumps : Type 0
+Dumps = map.FinMap (slice_cmp nat_cmp) Dumped
+
+abbrev pub dumps_code : Coded Dumps
+dumps_code = map.code (coded_list coded_ℕ) dumped_code
+
+pub record Namespace : Type 0 where
+  pub files : Files
+  pub dumps : Dumps
+  pub now : ℕ
+
+-- a namespace is stored as its files, its dumps and its time
 abbrev pub namespace_code : Coded Namespace
-namespace_code = code_by Files (map.code (coded_list coded_ℕ) (coded_list coded_ℕ)) (λ ns. ns.files) (λ files. record { files = files }) (λ _. refl)
+namespace_code =
+    code_by (Files × (Dumps × ℕ)) (coded× files_code (coded× dumps_code coded_ℕ)) (λ ns. (ns.files, (ns.dumps, ns.now)))
+    (λ p. record { files = p.0; dumps = p.1.0; now = p.1.1 }) (λ _. refl)
 
+-- no file, no dump, and the time 0
 unfoldable pub no_files : Namespace
-no_files = record { files = map.empty }
-
--- the file holds these bytes, whether it was there or not; each other one stays
-unfoldable pub written : List ℕ → List ℕ → Namespace → Namespace
-written path bytes ns = record { files = map.insert ns.files path bytes }
+no_files = record { files = map.empty; dumps = map.empty; now = 0 }
 
 -- what a file holds, if it is there
 unfoldable pub bytes_of : List ℕ → Namespace → Option (List ℕ)
 bytes_of path ns = map.get ns.files path
+
+-- the dump of a name, if it is there
+unfoldable pub dump_of : List ℕ → Namespace → Option Dumped
+dump_of name ns = map.get ns.dumps name
+
+-- what a file of a dump holds, if the dump has it
+unfoldable pub bytes_in : List ℕ → Dumped → Option (List ℕ)
+bytes_in path dump = map.get dump.files path
+
+-- the file holds these bytes, whether it was there or not; each other one stays
+unfoldable pub written : List ℕ → List ℕ → Namespace → Namespace
+written path bytes ns = record ns { files = map.insert ns.files path bytes }

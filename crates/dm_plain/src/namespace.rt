@@ -1,20 +1,24 @@
-//! The files of a plain namespace.
+//! The files, the dumps and the time of a plain namespace.
 
-ghost use Rattle.std.specs.Prelude.{◌≡◌, OnErr, OnOk};
+ghost use Rattle.std.specs.Prelude.{◌≡◌, ◌+◌, ◌≤◌, length, OnErr, OnOk};
 ghost use Rattle.std.specs.Option.{option_copied, option_map};
 ghost use Rattle.dm_plain.specs.Namespace.{bytes_of, no_files, written};
-ghost use Rattle.dm_plain.specs.Steps.{after};
+ghost use Rattle.dm_plain.specs.Steps.{after, bytes_dumped, range_replaced, restored, with_dump, without_dump, without_file, EndsInLimit, TakesMemory};
 
+use crate::dump::Dump;
+use crate::patch::patch;
 use crate::step::PlainStep;
-use dm_base::{Bytes, NoMemory, Path};
+use dm_base::{Bytes, DumpName, NoMemory, Path, Secs};
 use std::alloc::Global;
 use std::collections::BTreeMap;
 use std::marker::Model;
 
-/// Files by their paths, each with its bytes.
+/// Files by their paths, each with its bytes; dumps by their names; and a time.
 #[derive(Drop)]
 pub struct Plain {
     files: BTreeMap<Path, Bytes>,
+    dumps: BTreeMap<DumpName, Dump>,
+    now: Secs,
 }
 
 impl Model for Plain {
@@ -25,35 +29,59 @@ impl Model for Plain {
 
     ghost coded = { namespace_code };
 
-    ghost view = { λ p. record { files = map.from_entries p.files.entries } };
+    ghost view = { λ p. record { files = map.from_entries p.files.entries; dumps = map.from_entries p.dumps.entries; now = p.now.0 } };
 }
 
 impl Plain {
-    /// No files. It takes no memory.
+    /// No file, no dump, and the time 0. It takes no memory.
     pub fn empty(alloc: Global) -> Plain
         ensures { result ≡ no_files }
     {
         Plain {
             files: BTreeMap::new(alloc),
+            dumps: BTreeMap::new(alloc),
+            now: Secs(0),
         }
     }
 
-    /// Does a step, for which it copies the path and the bytes.
+    /// Does a step. It copies the bytes and the names that it keeps, and for a dump all files, so memory
+    /// may be refused; `Remove`, `Undump` and `Time` take none.
     pub fn apply(&mut self, alloc: Global, step: &PlainStep) -> Result<(), NoMemory>
+        // The range of a patch ends at most 16,777,216 bytes from the beginning of its file.
+        requires { EndsInLimit step.now }
         ensures ok { OnOk result (self.new ≡ after step.now self.old) }
         ensures err { OnErr result (self.new ≡ self.old) }
+        ensures err_by_memory { OnErr result (TakesMemory step.now) }
     {
         match step {
-            PlainStep::Write { path, bytes } => self.write(
-                path.copied(alloc)?,
-                bytes.copied(alloc)?,
-            ),
+            PlainStep::Write { path, bytes } => {
+                self.write(path.copied(alloc)?, bytes.copied(alloc)?)
+            }
+            PlainStep::Patch {
+                path,
+                offset,
+                bytes,
+            } => self.patch(alloc, path, *offset, bytes.as_slice()),
+            PlainStep::Remove { path } => {
+                self.remove(path);
+                Ok(())
+            }
+            PlainStep::Dump { name } => self.dump(alloc, name.copied(alloc)?),
+            PlainStep::Undump { name } => {
+                self.undump(name);
+                Ok(())
+            }
+            PlainStep::Restore { name, path, target } => self.restore(alloc, name, path, target),
+            PlainStep::Time { now } => {
+                self.now = *now;
+                Ok(())
+            }
         }
     }
 
     /// The bytes of a file, or none where it isn't there.
     pub fn read(&self, path: &Path) -> Option<&[u8]>
-        ensures { option_copied result ≡ bytes_of path.now self.now }
+        ensures { option_copied result ≡ bytes_of path.now self.entry.now }
     {
         match self.files.get(path) {
             Some(bytes) => Some(bytes.as_slice()),
@@ -67,5 +95,72 @@ impl Plain {
     {
         self.files.insert(path, bytes)?;
         Ok(())
+    }
+
+    fn patch(
+        &mut self,
+        alloc: Global,
+        path: &Path,
+        offset: u64,
+        piece: &[u8],
+    ) -> Result<(), NoMemory>
+        requires { offset + length piece.now ≤ 16777216 }
+        ensures ok { OnOk result (self.new ≡ range_replaced path.now offset piece.now self.old) }
+        ensures err { OnErr result (self.new ≡ self.old) }
+    {
+        let Some(bytes) = self.files.get_mut(path) else {
+            return Ok(());
+        };
+        patch(alloc, bytes, offset, piece)
+    }
+
+    fn remove(&mut self, path: &Path)
+        ensures { self.new ≡ without_file path.now self.old }
+    {
+        self.files.remove(path);
+    }
+
+    fn dump(&mut self, alloc: Global, name: DumpName) -> Result<(), NoMemory>
+        ensures ok { OnOk result (self.new ≡ with_dump name self.old) }
+        ensures err { OnErr result (self.new ≡ self.old) }
+    {
+        let dump = Dump::of_files(alloc, self.now, &self.files)?;
+        self.dumps.insert(name, dump)?;
+        Ok(())
+    }
+
+    fn undump(&mut self, name: &DumpName)
+        ensures { self.new ≡ without_dump name.now self.old }
+    {
+        self.dumps.remove(name);
+    }
+
+    fn restore(
+        &mut self,
+        alloc: Global,
+        name: &DumpName,
+        path: &Path,
+        target: &Path,
+    ) -> Result<(), NoMemory>
+        ensures ok { OnOk result (self.new ≡ restored name.now path.now target.now self.old) }
+        ensures err { OnErr result (self.new ≡ self.old) }
+    {
+        match self.dumped(name, path) {
+            Some(bytes) => {
+                let bytes = bytes.copied(alloc)?;
+                self.write(target.copied(alloc)?, bytes)
+            }
+            None => Ok(()),
+        }
+    }
+
+    // What a file of a dump holds.
+    fn dumped(&self, name: &DumpName, path: &Path) -> Option<&Bytes>
+        ensures { option_copied result ≡ bytes_dumped name.now path.now self.entry.now }
+    {
+        match self.dumps.get(name) {
+            Some(dump) => dump.bytes_of(path),
+            None => None,
+        }
     }
 }

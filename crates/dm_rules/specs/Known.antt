@@ -1,5 +1,5 @@
 -- What is known of a volume: which byte stands at which place. At every other place may stand any byte.
-use Rattle.std.specs.Prelude.{◌≡◌, ℕ, ◌+◌, nat_le, nat_lt, ◌==◌, ◌&&◌, Bool, true, not, Option, None, Some, List, [], ◌∷◌, zero, suc}
+use Rattle.std.specs.Prelude.{◌≡◌, ℕ, ◌+◌, ◌<◌, nat_le, nat_lt, ◌==◌, ◌&&◌, Bool, true, not, Option, None, Some, List, [], ◌∷◌, length, slice_index, zero, suc}
 use Rattle.std.specs.FinMap as map
 use Rattle.std.specs.Ordering.{nat_cmp}
 
@@ -40,6 +40,6 @@ unfoldable pub known_bytes : Known → ℕ → ℕ → Option (List ℕ)
 known_bytes known place zero = Some []
 known_bytes known place (suc n) = byte_and (map.get known place) (known_bytes known (place + 1) n)
 
--- a content of a volume has each known byte at its place
-abbrev pub Holds : Known → (ℕ → ℕ) → Type 0
-Holds known content = (place b : ℕ) → map.get known place ≡ Some b → content place ≡ b
+-- the content of a volume's file has each known byte at its place, before its end
+abbrev pub Holds : Known → List ℕ → Type 0
+Holds known content = (place b : ℕ) → map.get known place ≡ Some b → (place < length content) × (slice_index content place ≡ b)

@@ -1,5 +1,5 @@
 -- What a step does to the daemon's tables.
-use Rattle.std.specs.Prelude.{ℕ, ◌+◌, ◌*◌, ◌^◌, Bool, cond, Option, None, Some, List, length}
+use Rattle.std.specs.Prelude.{ℕ, ◌<◌, ◌+◌, ◌*◌, ◌^◌, Bool, cond, Option, None, Some, List, length}
 use Rattle.std.specs.FinMap as map
 use Rattle.dm_base.specs.declared.identifier.Bfid.{Bfid}
 use Rattle.dm_base.specs.declared.identifier.GroupId.{GroupId}
@@ -88,3 +88,15 @@ stepped t (Taken n bytes) = record t { inodes = adjust t.inodes n.0 (reformed (r
 -- the tables after a record: its time, and then its step
 abbrev pub landed : DaemonTables → DaemonRecord → DaemonTables
 landed t r = stepped (record t { time = r.time }) r.step
+
+-- the tables of a site before the first step: no file, and puts count from `first`
+abbrev pub empty_tables : ℕ → ℕ → DaemonTables
+empty_tables site first = record {
+  site = site;
+  time = record { 0 = 0 };
+  change = 0;
+  counter = first;
+  names = map.empty;
+  inodes = map.empty;
+  entries = map.empty;
+}

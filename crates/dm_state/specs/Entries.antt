@@ -2,6 +2,7 @@
 use Rattle.std.specs.Prelude.{ℕ, Bool, true, false, cond, not, ◌&&◌, Option, None, Some, List, map, nat_eq}
 use Rattle.std.specs.List.{list_any, list_all}
 use Rattle.dm_base.specs.declared.identifier.GroupId.{GroupId}
+use Rattle.dm_state.specs.declared.daemon.AskedCopy.{AskedCopy}
 use Rattle.dm_state.specs.declared.daemon.Entry.{Entry}
 use Rattle.dm_state.specs.declared.daemon.Inode.{Inode}
 use Rattle.dm_tables.specs.Rows.{adjust}
@@ -29,9 +30,13 @@ abbrev pub new_entry : ℕ → List GroupId → Entry
 new_entry len groups =
     record { len = len; copies = map (λ g. record { group = g; stored = false }) groups; gone = None; dropping = false }
 
+-- a copy, stored where it is the group's
+abbrev pub marked : ℕ → AskedCopy → AskedCopy
+marked g c = record { group = c.group; stored = cond (nat_eq c.group.0 g) true c.stored }
+
 -- the group has stored its copy
 abbrev pub stored_by : ℕ → Entry → Entry
-stored_by g e = record e { copies = map (λ c. record { group = c.group; stored = cond (nat_eq c.group.0 g) true c.stored }) e.copies }
+stored_by g e = record e { copies = map (marked g) e.copies }
 
 -- the bitfile is let go: where none of these inodes names it any more, its entry is deleted at that time
 abbrev pub let_go : Numbered Entry → Numbered Inode → ℕ → ℕ → Numbered Entry

@@ -1,5 +1,6 @@
 -- What a step does to a group's tables.
-use Rattle.std.specs.Prelude.{ℕ, ◌+◌, None, List, [], ◌∷◌}
+use Rattle.std.specs.Prelude.{ℕ, ◌+◌, ◌<◌, None, List, [], ◌∷◌}
+use Rattle.std.specs.List.{All}
 use Rattle.std.specs.FinMap as map
 use Rattle.dm_base.specs.declared.volume.Chunk.{Chunk}
 use Rattle.dm_state.specs.declared.group.VolumeRow.{VolumeRow}
@@ -35,3 +36,7 @@ group_stepped t (Commit b len chunks) = record t {
 -- the tables after a record: its time, and then its step
 abbrev pub group_landed : GroupTables → GroupRecord → GroupTables
 group_landed t r = group_stepped (record t { time = r.time }) r.step
+
+-- the tables of a group before the first step
+abbrev pub empty_group : GroupTables
+empty_group = record { time = record { 0 = 0 }; volumes = map.empty; bitfiles = map.empty }

@@ -5,8 +5,16 @@
 //! joint machine cite these definitions.
 #![tactic(auto)]
 
+mod copies;
 mod daemon;
+mod daemon_steps;
+mod entries;
 mod group;
+mod group_steps;
+mod inodes;
 
 pub use daemon::{AskedCopy, Contents, DaemonRecord, DaemonStep, DaemonTables, Entry, Inode};
 pub use group::{BitfileRow, GroupRecord, GroupStep, GroupTables, VolumeRow};
+
+#[cfg(test)]
+mod tests;

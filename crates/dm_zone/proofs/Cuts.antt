@@ -1,9 +1,10 @@
 -- Bytes cut into chunks.
-use Rattle.std.proofs.Common.{◌≡◌, ℕ, zero, suc, ◌+◌, ◌*◌, ◌<◌, ◌≤◌, List, [], ◌++◌, length, take, drop, refl, ap, ◌∙◌, sym, arith, append_assoc, length-append, length-take, length-drop}
+use Rattle.std.proofs.Common.{◌≡◌, ℕ, zero, suc, ◌+◌, ◌*◌, ◌^◌, ◌<◌, ◌≤◌, List, [], ◌++◌, length, take, drop, refl, ap, ◌∙◌, sym, arith, append_assoc, length-append, length-take, length-drop}
 use Rattle.std.specs.Int.{div_ceil}
-use Rattle.std.specs.List.{flat_map}
+use Rattle.std.specs.List.{flat_map, AllByRecursion}
 use Rattle.std.proofs.lemmas.List.{append-nil, take_all, drop_at}
 use Rattle.std.proofs.lemmas.Grind.{div_ceil_times}
+use Rattle.dm_zone.specs.Grammar.{IsChunk, IsZone}
 use Rattle.dm_rules.specs.Zone.{chunk_count, chunk_front, chunk_text, cut, cut_into, unsealed, zone, zone_front, zone_length}
 
 pub length-chunk_front : (bfid offset count total : ℕ) → length (chunk_front bfid offset count total) ≡ 48
@@ -108,3 +109,36 @@ length-zone epoch bfid total offset bytes chunk n whole some =
 -- a zone of one chunk has both headers and its bytes
 pub one_chunk_length : (n chunk : ℕ) → 0 < n → n ≤ chunk → zone_length 48 chunk n ≡ 80 + n
 one_chunk_length n chunk some fits = omega (arith, one_chunk n chunk some fits)
+
+-- bytes within their bitfile are cut into chunks of the grammar
+cut_into_chunks : (count bfid total offset : ℕ) (bytes : List ℕ) (chunk : ℕ) → bfid < 2 ^ 128 → total < 2 ^ 64 → 0 < chunk → offset + length bytes ≤ total → count * chunk < length bytes + chunk → AllByRecursion IsChunk (cut_into unsealed count bfid total offset bytes chunk)
+unfolding cut_into
+cut_into_chunks zero bfid total offset bytes chunk b t some within reach = tt
+cut_into_chunks (suc count) bfid total offset bytes chunk b t some within reach =
+    let front = take chunk bytes in
+    let rest = drop chunk bytes in
+    let long = length-take chunk bytes in
+    let left = length-drop chunk bytes in
+    let left_reach : count * chunk < length bytes = omega (arith, reach) in (
+      record { bfid = b; total = t; some = omega (arith, long, some, left_reach); within = omega (arith, long, within); unsealed = refl },
+      cut_into_chunks count bfid total (offset + length front) rest chunk b t some (omega (arith, long, left, within)) (omega (arith, left, left_reach, some)),
+    )
+
+pub cut_zone : (epoch bfid total offset : ℕ) (bytes : List ℕ) (chunk : ℕ) → epoch < 2 ^ 64 → bfid < 2 ^ 128 → total < 2 ^ 64 → 0 < chunk → 0 < length bytes → offset + length bytes ≤ total → chunk_count chunk (length bytes) < 2 ^ 32 → zone_length 48 chunk (length bytes) < 2 ^ 64
+    → IsZone epoch (cut unsealed bfid total offset bytes chunk)
+cut_zone epoch bfid total offset bytes chunk e b t some_chunk some within few fits =
+    let n : ℕ = chunk_count chunk (length bytes) in
+    let count = length-cut_into n bfid total offset bytes chunk in
+    let bounds = div_ceil_times (length bytes) chunk some_chunk in
+    let chunks = length-chunks n bfid total offset bytes chunk bounds.0 in
+    record {
+      epoch_fits = e;
+      some = omega (arith, count, some_count n (length bytes) chunk some bounds.0);
+      count_fits = omega (arith, count, few);
+      each = cut_into_chunks n bfid total offset bytes chunk b t some_chunk within bounds.1;
+      whole_fits = omega (arith, chunks, fits);
+    }
+  where
+    some_count : (d n chunk : ℕ) → 0 < n → n ≤ d * chunk → 0 < d
+    some_count zero n chunk some reach = absurd (omega arith)
+    some_count (suc d) n chunk some reach = omega arith

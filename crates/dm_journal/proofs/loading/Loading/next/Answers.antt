@@ -25,6 +25,7 @@ returns-in-None g c =
         damaged = search rules;
         place = search rules;
         memory = search rules;
+        conf = search rules;
         same = same;
         any_moment = subst (λ (j : LoadAt). Works (File j.file) d0 d1 (Follows Same j.file d0)) c.self.view_is c.advance.ensures.works;
         cause = record { kept = c.advance.ensures.cause.kept; rose = search rules };
@@ -51,6 +52,7 @@ returns-in-Some g c =
         damaged = search rules;
         place = search rules;
         memory = search rules;
+        conf = search rules;
         same = same;
         any_moment = subst (λ (j : LoadAt). Works (File j.file) d0 d1 (Follows Same j.file d0)) c.self.view_is c.advance.ensures.works;
         cause = record { kept = c.advance.ensures.cause.kept; rose = search rules };

@@ -1,4 +1,4 @@
-use Rattle.std.proofs.Common.{rules, subst, sym, ◌<◌, ◌^◌, ◌+◌, ◌∙◌}
+use Rattle.std.proofs.Common.{rules, subst, sym, ◌<◌, ◌^◌, ◌∙◌}
 use Rattle.dm_tables.proofs.Loops.{added_whole, added_on, added_fits, added_end}
 use Rattle.dm_tables.proofs.numbers.Numbers.total.Goals as goal
 

@@ -1,0 +1,8 @@
+use Rattle.std.proofs.Common.{Some, [], ◌∷◌}
+use Rattle.dm_spine.proofs.pass.Pass.give.Given as goal
+
+abbrev pub ghosts-cut_at : goal.ghosts-cut_at
+ghosts-cut_at g a = record { said = Some (a.names.now ∷ []) }
+
+abbrev pub ghosts-join_at : goal.ghosts-join_at
+ghosts-join_at g a = record { said = Some a.table.now.shared.key }

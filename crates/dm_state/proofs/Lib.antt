@@ -1,0 +1,4 @@
+pub mod Changes
+pub mod Lists
+pub mod Ends
+pub mod Freed

@@ -1,0 +1,114 @@
+//! What no clause says: that calls succeed while nothing fails, and what a call that fails leaves. And a caller that is
+//! generic in its bay.
+ghost use Rattle.std.specs.Prelude.{◌≡◌, IsTrue, OnOk, length};
+ghost use Rattle.dm_rules.specs.Known.{Known, forgotten, agrees, Holds};
+ghost use Rattle.dm_volume.specs.Volume.{IsInZones, IsReadable};
+
+use crate::Volume;
+use dm_base::{GroupId, Mount, Vsn};
+use dm_host::{Bay, Failed, MemBay};
+use std::test::Fail;
+
+const MOUNT: Mount = Mount {
+    number: 1,
+    vsn: Vsn(*b"AA0001"),
+    epoch: 1,
+};
+
+// Writes a zone, which may fail, and reads a range.
+fn write_and_read<B: Bay>(
+    bay: &mut B,
+    volume: &mut Volume,
+    place: u64,
+    zone: &[u8],
+    start: u64,
+    into: &mut [u8],
+) -> Result<(), Failed>
+    requires mount { MOUNT.vsn ≡ volume.old.vsn }
+    requires zone { IsInZones volume.old.size place (length zone.now) }
+    requires range { IsReadable volume.old.size start (length into.old) }
+    ensures { IsTrue (B.disk bay.old).told → (known : Known) → Holds known ((B.disk bay.old).seen volume.old.file)
+        → OnOk result (IsTrue (agrees (forgotten place (length zone.now) known) start into.new)) }
+{
+    let _ = volume.write_zone(bay, &MOUNT, place, zone);
+    volume.read_chunk(bay, &MOUNT, start, into)
+}
+
+#[test]
+fn a_zone_is_read_back(rt: HostRuntime) -> Result<(), Fail> {
+    let mut bay = MemBay::empty(rt.alloc());
+    let mut volume = Volume::of(Vsn(*b"AA0001"), GroupId(1), 16, 424);
+    assert_eq!(rt; volume.vsn(), Vsn(*b"AA0001"));
+    assert_eq!(rt; volume.size(), 424);
+    volume.write_zone(&mut bay, &MOUNT, 420, b"last")?;
+    volume.write_zone(&mut bay, &MOUNT, 64, b"first")?;
+    let mut bytes = [9; 6];
+    volume.read_chunk(&mut bay, &MOUNT, 418, &mut bytes)?;
+    assert_eq!(rt; &bytes[2..], b"last".as_slice());
+    write_and_read(&mut bay, &mut volume, 69, b"next", 64, &mut bytes)?;
+    assert_eq!(rt; bytes, *b"firstn");
+    assert_eq!(rt; bay.bytes(0), [].as_slice());
+    Ok(())
+}
+
+#[test]
+fn a_write_that_fails_spoils_its_range_alone(rt: HostRuntime) -> Result<(), Fail> {
+    let alloc = rt.alloc();
+    let mut bay = MemBay::empty(alloc);
+    let mut volume = Volume::of(Vsn(*b"AA0001"), GroupId(1), 16, 424);
+    volume.write_zone(&mut bay, &MOUNT, 64, b"first")?;
+    volume.write_zone(&mut bay, &MOUNT, 69, b"second")?;
+    bay.fail = [5, 8].to_vec(alloc)?;
+    assert_eq!(rt;
+        volume.write_zone(&mut bay, &MOUNT, 66, b"zone"),
+        Err(Failed)
+    );
+    assert_eq!(rt; bay.faults(), 1);
+    let mut bytes = [9; 11];
+    volume.read_chunk(&mut bay, &MOUNT, 64, &mut bytes)?;
+    assert_eq!(rt; &bytes[..2], b"fi".as_slice());
+    assert_eq!(rt; &bytes[6..], b"econd".as_slice());
+    // The seventh call writes the zone, and the eighth, which fails, is its sync.
+    assert_eq!(rt;
+        volume.write_zone(&mut bay, &MOUNT, 66, b"zone"),
+        Err(Failed)
+    );
+    volume.read_chunk(&mut bay, &MOUNT, 64, &mut bytes)?;
+    assert_eq!(rt; bytes, *b"fizoneecond");
+    Ok(())
+}
+
+#[test]
+fn a_read_fails(rt: HostRuntime) -> Result<(), Fail> {
+    let alloc = rt.alloc();
+    let mut bay = MemBay::empty(alloc);
+    let mut volume = Volume::of(Vsn(*b"AA0001"), GroupId(1), 16, 424);
+    bay.fuse = Some(0);
+    let mut bytes = [9; 64];
+    assert_eq!(rt;
+        volume.read_chunk(&mut bay, &MOUNT, 0, &mut bytes),
+        Err(Failed)
+    );
+    bay.fuse = None;
+    volume.read_chunk(&mut bay, &MOUNT, 0, &mut bytes)?;
+    assert_eq!(rt; bytes, [0; 64]);
+    Ok(())
+}
+
+#[test]
+fn a_label_is_written(rt: HostRuntime) -> Result<(), Fail> {
+    let mut label = [0; 64];
+    label[..32].copy_from_slice(&[
+        0x44, 0x4d, 0x56, 0x4f, 0x4c, 0x49, 0x4d, 0x31, 0x41, 0x41, 0x30, 0x30, 0x30, 0x31, 1, 1,
+        0, 0, 0, 0, 0, 0, 0, 1, 0, 0, 0, 0, 0, 0, 1, 0xa8,
+    ]);
+    let mut bay = MemBay::empty(rt.alloc());
+    let mut volume = Volume::of(Vsn(*b"AA0001"), GroupId(1), 16, 424);
+    volume.write_zone(&mut bay, &MOUNT, 64, b"zone")?;
+    volume.relabel(&mut bay, &MOUNT, 1)?;
+    let mut bytes = [9; 64];
+    volume.read_chunk(&mut bay, &MOUNT, 0, &mut bytes)?;
+    assert_eq!(rt; bytes, label);
+    assert_eq!(rt; &bay.bytes(16)[64..], b"zone".as_slice());
+    Ok(())
+}

@@ -1,0 +1,107 @@
+-- What is read of bytes: their one zone, or the place of their first wrong field.
+use Rattle.std.specs.Prelude.{◌≡◌, ◌≢◌, ◌⊎◌, ℕ, ◌+◌, ◌^◌, ◌<◌, List, [], ◌∷◌, ◌++◌, length, take, drop}
+use Rattle.std.specs.Int.{w32, w64, w128}
+use Rattle.std.specs.List.{flat_map, AllByRecursion}
+use Rattle.dm_rules.specs.Zone.{Chunk, chunk_header, chunk_text, zone, zone_front, zone_header}
+use Rattle.dm_zone.specs.declared.contents.ZoneChunk.{ZoneChunk}
+use Rattle.dm_zone.specs.Grammar.{IsChunk, IsZone}
+use Rattle.dm_zone.specs.Fields.{FirstWrong, chunk_fields, zone_fields, number_at}
+
+-- what is told of a chunk whose header stands at `place`
+abbrev pub entry : ℕ → Chunk → ZoneChunk
+entry place c = record { bfid = record { 0 = c.bfid }; total = c.total; offset = c.offset; at = place + chunk_header; len = length c.bytes }
+
+-- what is told of chunks that stand one behind the other from `place` on
+abbrev pub entries : ℕ → List Chunk → List ZoneChunk
+entries place [] = []
+entries place (c ∷ cs) = entry place c ∷ entries (place + length (chunk_text c)) cs
+
+-- each entry says where the bytes of its chunk stand
+abbrev pub Stand : List ℕ → List ZoneChunk → List Chunk → Type 0
+Stand bytes [] [] = Unit {0}
+Stand bytes [] (c ∷ cs) = ⊥
+Stand bytes (e ∷ es) [] = ⊥
+Stand bytes (e ∷ es) (c ∷ cs) = (take e.len (drop e.at bytes) ≡ c.bytes) × Stand bytes es cs
+
+-- the bytes are the zone of these chunks, and the entries tell of them
+pub record Spells (bytes : List ℕ) (epoch : ℕ) (told : List ZoneChunk) (chunks : List Chunk) : Type 0 where
+  pub spelled : bytes ≡ zone epoch chunks
+  pub is_zone : IsZone epoch chunks
+  pub told_is : told ≡ entries zone_header chunks
+  pub stand : Stand bytes told chunks
+
+-- the bytes begin with a right header of these numbers and with these chunks; then comes `rest`
+pub record Begins (bytes : List ℕ) (epoch count whole : ℕ) (chunks : List Chunk) (rest : List ℕ) : Type 0 where
+  pub spelled : bytes ≡ zone_front epoch count whole ++ (flat_map chunk_text chunks ++ rest)
+  pub epoch_fits : epoch < 2 ^ 64
+  pub some : 0 < count
+  pub count_fits : count < 2 ^ 32
+  pub whole_fits : whole < 2 ^ 64
+  pub each : AllByRecursion IsChunk chunks
+
+-- a field of the next chunk is wrong
+pub record WrongInChunk (count : ℕ) (chunks : List Chunk) (rest : List ℕ) (place : ℕ) : Type 0 where
+  pub fewer : length chunks < count
+  pub at : ℕ
+  pub wrong : FirstWrong chunk_fields rest at
+  pub place_is : place ≡ zone_header + length (flat_map chunk_text chunks) + at
+
+-- all chunks are there, and the length of the zone, at 16, isn't that of its parts
+pub record WrongLength (count whole : ℕ) (chunks : List Chunk) (place : ℕ) : Type 0 where
+  pub all : length chunks ≡ count
+  pub differs : whole ≢ zone_header + length (flat_map chunk_text chunks)
+  pub place_is : place ≡ 16
+
+-- the whole zone is there, and bytes are left
+pub record LeftOver (count whole : ℕ) (chunks : List Chunk) (rest : List ℕ) (place : ℕ) : Type 0 where
+  pub all : length chunks ≡ count
+  pub whole_is : whole ≡ zone_header + length (flat_map chunk_text chunks)
+  pub left : 0 < length rest
+  pub place_is : place ≡ whole
+
+-- what is wrong behind these chunks
+abbrev pub WrongNext : ℕ → ℕ → List Chunk → List ℕ → ℕ → Type 0
+WrongNext count whole chunks rest place =
+    WrongInChunk count chunks rest place ⊎ (WrongLength count whole chunks place ⊎ LeftOver count whole chunks rest place)
+
+-- the header is right, and the first wrong field stands behind it or is the zone's length
+pub record WrongBehind (bytes : List ℕ) (place : ℕ) : Type 0 where
+  pub epoch : ℕ
+  pub count : ℕ
+  pub whole : ℕ
+  pub chunks : List Chunk
+  pub rest : List ℕ
+  pub begins : Begins bytes epoch count whole chunks rest
+  pub wrong : WrongNext count whole chunks rest place
+
+-- the first wrong field of the bytes stands at this place
+abbrev pub WrongAt : List ℕ → ℕ → Type 0
+WrongAt bytes place = FirstWrong zone_fields bytes place ⊎ WrongBehind bytes place
+
+-- the numbers of a zone's header
+pub record IsHeader (count epoch whole : ℕ) (bytes : List ℕ) : Type 0 where
+  pub count_is : count ≡ number_at w32 4 bytes
+  pub epoch_is : epoch ≡ number_at w64 8 bytes
+  pub whole_is : whole ≡ number_at w64 16 bytes
+
+-- what a reader of one header tells of a chunk at `place`
+abbrev pub entry_at : ℕ → List ℕ → ZoneChunk
+entry_at place bytes =
+    record { bfid = record { 0 = number_at w128 8 bytes }; total = number_at w64 40 bytes; offset = number_at w64 24 bytes; at = place + chunk_header; len = number_at w64 32 bytes }
+
+-- n chunks were read of the bytes behind the zone's header: the entries tell of them, the next stands at `place`
+pub record Read (text : List ℕ) (n : ℕ) (told : List ZoneChunk) (place : ℕ) (rest : List ℕ) : Type 0 where
+  pub chunks : List Chunk
+  pub spelled : text ≡ flat_map chunk_text chunks ++ rest
+  pub each : AllByRecursion IsChunk chunks
+  pub count : length chunks ≡ n
+  pub told_is : told ≡ entries zone_header chunks
+  pub place_is : place ≡ zone_header + length (flat_map chunk_text chunks)
+
+-- fewer than n chunks stand there, and a field of the next is wrong
+pub record Stops (text : List ℕ) (n : ℕ) (place : ℕ) : Type 0 where
+  pub chunks : List Chunk
+  pub rest : List ℕ
+  pub spelled : text ≡ flat_map chunk_text chunks ++ rest
+  pub each : AllByRecursion IsChunk chunks
+  pub wrong : WrongInChunk n chunks rest place

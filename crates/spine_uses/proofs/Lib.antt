@@ -1,0 +1,4 @@
+pub mod Locks
+pub mod Additions
+pub mod Sessions
+pub mod Runs

@@ -1,0 +1,4 @@
+pub mod Locks
+pub mod Counting
+pub mod Tallies
+pub mod Runs
