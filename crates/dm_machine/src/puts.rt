@@ -1,7 +1,6 @@
 //! What the calls of a put come to, and a release.
 
-ghost use Rattle.std.specs.Prelude.{◌≡◌, ◌&&◌, cond, nat_eq, IfOk};
-ghost use Rattle.std.specs.List.{list_all, list_any};
+ghost use Rattle.std.specs.Prelude.{◌≡◌, ◌&&◌, cond, IfOk};
 ghost use Rattle.std.specs.FinMap as finmap;
 ghost use Rattle.std.specs.Option.{option_copied, option_map};
 ghost use Rattle.dm_machine.specs.Tests.{first_true};
@@ -20,7 +19,7 @@ use crate::prepared::{
 };
 use crate::state::{Daemon, Joint, OpenRequest, RequestKind, Side};
 use dm_base::{Bfid, DaemonError, GroupId, NoMemory, Path, PutEnd, Secs};
-use dm_state::{AskedCopy, DaemonStep, Entry, Inode};
+use dm_state::{DaemonStep, Entry, Inode};
 use dm_tables::Test;
 use std::alloc::Global;
 
