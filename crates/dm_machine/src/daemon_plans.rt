@@ -17,7 +17,7 @@ use dm_state::Inode;
 use std::alloc::Global;
 
 impl Joint {
-    /// What a call of the daemon comes to.
+    // What a call of the daemon comes to.
     pub(crate) fn prepare_daemon(
         &self,
         alloc: Global,

@@ -2,7 +2,7 @@
 
 ghost use Rattle.std.specs.Prelude.{◌≡◌, Some, IfOk, map};
 ghost use Rattle.std.specs.Option.{option_copied, option_map, option_to_list};
-ghost use Rattle.dm_state.specs.Inodes.{length_of, bytes_online};
+ghost use Rattle.dm_state.specs.Inodes.{bytes_online};
 ghost use Rattle.dm_machine.specs.Files.{size_of, all_rows, row_if, file_named, numbered, file_at as file_at_of, is_put as is_put_of_kind, is_recall as is_recall_of_kind, has_open_put as has_open_put_of, has_open_recall as has_open_recall_of, state_of, is_regular as is_regular_of, is_dual as is_dual_of, is_away as is_away_of, bfid_shown as bfid_shown_of, row_of, groups_of as groups_in, asked_by as asked_by_entry};
 
 use crate::state::{Daemon, OpenRequest, RequestKind};
@@ -100,7 +100,7 @@ impl Daemon {
         FileRow {
             path,
             state,
-            len: length(&inode.contents),
+            len: inode.contents.len(),
             change: inode.change,
             bfid: bfid_shown(state, &inode.contents),
         }
@@ -148,7 +148,7 @@ impl Weight<Inode> for FileLength {
     ghost weight = { λ _ inode. length_of inode.contents };
 
     fn weigh(&self, inode: &Inode) -> u64 {
-        length(&inode.contents)
+        inode.contents.len()
     }
 }
 
@@ -159,18 +159,6 @@ fn named(alloc: Global, text: &[u8]) -> Result<Path, NoMemory>
     match Path::of_bytes(alloc, text) {
         Ok(path) => Ok(path),
         Err(_) => Err(NoMemory),
-    }
-}
-
-// How long a file is.
-pub(crate) fn length(contents: &Contents) -> u64
-    ensures { result ≡ length_of contents.now }
-{
-    match contents {
-        Contents::Regular { bytes }
-        | Contents::Making { bytes, bfid: _ }
-        | Contents::Dual { bytes, bfid: _ } => bytes.len() as u64,
-        Contents::Offline { len, bfid: _ } => *len,
     }
 }
 

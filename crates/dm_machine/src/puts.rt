@@ -1,7 +1,6 @@
 //! What the calls of a put come to, and a release.
 
-ghost use Rattle.std.specs.Prelude.{◌≡◌, ◌&&◌, cond, nat_eq, IfOk};
-ghost use Rattle.std.specs.List.{list_all, list_any};
+ghost use Rattle.std.specs.Prelude.{◌≡◌, ◌&&◌, cond, IfOk};
 ghost use Rattle.std.specs.FinMap as finmap;
 ghost use Rattle.std.specs.Option.{option_copied, option_map};
 ghost use Rattle.dm_machine.specs.Tests.{first_true};
@@ -20,7 +19,7 @@ use crate::prepared::{
 };
 use crate::state::{Daemon, Joint, OpenRequest, RequestKind, Side};
 use dm_base::{Bfid, DaemonError, GroupId, NoMemory, Path, PutEnd, Secs};
-use dm_state::{AskedCopy, DaemonStep, Entry, Inode};
+use dm_state::{DaemonStep, Entry, Inode};
 use dm_tables::Test;
 use std::alloc::Global;
 
@@ -281,14 +280,8 @@ fn is_whole(entry: Option<&Entry>) -> bool
 {
     match entry {
         None => false,
-        Some(entry) => is_stored(entry.copies.as_slice()),
+        Some(entry) => entry.is_stored(),
     }
-}
-
-fn is_stored(copies: &[AskedCopy]) -> bool
-    ensures { result ≡ list_all (λ c. c.stored) copies.now }
-{
-    copies.iter().all(|copy| copy.stored)
 }
 
 // Whether the group was asked for a copy, and has stored none.
@@ -297,25 +290,8 @@ fn awaits(entry: Option<&Entry>, group: GroupId) -> bool
 {
     match entry {
         None => false,
-        Some(entry) => {
-            let copies = entry.copies.as_slice();
-            asks(copies, group) && !has_stored(copies, group)
-        }
+        Some(entry) => entry.asks(group) && !entry.has_stored(group),
     }
-}
-
-fn asks(copies: &[AskedCopy], group: GroupId) -> bool
-    ensures { result ≡ list_any (λ c. nat_eq c.group.0 group.0) copies.now }
-{
-    copies.iter().any(|copy| copy.group.0 == group.0)
-}
-
-fn has_stored(copies: &[AskedCopy], group: GroupId) -> bool
-    ensures { result ≡ list_any (λ c. nat_eq c.group.0 group.0 && c.stored) copies.now }
-{
-    copies
-        .iter()
-        .any(|copy| copy.group.0 == group.0 && copy.stored)
 }
 
 // How a put ends: with every copy stored, or not.

@@ -1,6 +1,5 @@
 use Rattle.std.proofs.Common.{◌≡◌, None}
 use Rattle.std.specs.FinMap.{get}
-use Rattle.std.specs.Ordering.{nat_cmp}
 use Rattle.dm_tables.proofs.Entries.{entries-empty}
 use Rattle.dm_machine.proofs.recalls.is_copy.Goals as goal
 
