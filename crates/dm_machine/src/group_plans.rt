@@ -598,7 +598,8 @@ fn are_written(
     ensures { IfOk result (λ b. b ≡ are_written_of bytes.now reserved.now written.now 0 reserved.now.pieces) }
 {
     for (index, piece) in reserved.pieces.as_slice().iter().enumerate() {
-        if !is_written(alloc, bytes, reserved, *piece, written, index)? {
+        let holds = is_written(alloc, bytes, reserved, *piece, written, index)?;
+        if !holds {
             return Ok(false);
         }
     }
