@@ -11,6 +11,7 @@ use Rattle.dm_base.specs.declared.volume.Piece.{Piece}
 use Rattle.dm_base.specs.declared.volume.VolRow.{VolRow}
 use Rattle.dm_rules.specs.declared.space.Space.{Space}
 use Rattle.dm_rules.specs.Numbers.{narrowed}
+use Rattle.dm_machine.proofs.Layouts.{drop_next}
 use Rattle.dm_rules.specs.Known.{Known, agrees, may_be}
 use Rattle.dm_state.specs.declared.group.VolumeRow.{VolumeRow}
 use Rattle.dm_state.specs.declared.group.BitfileRow.{BitfileRow}
@@ -201,3 +202,7 @@ agrees_not known at bs rest b whole is here so = sym (ap (agrees known at) is �
 pub agrees_end : (known : Known) (at : ℕ) (bs : List ℕ) (whole : Bool) → bs ≡ [] → agrees known at bs ≡ whole → true ≡ whole
 unfolding agrees
 agrees_end known at bs whole none so = sym (ap (agrees known at) none) ∙ so
+
+-- the next element of a list by another name
+pub drop_next_of : {A : Type 0} (xs ys : List A) (i : ℕ) (d : A) → xs ≡ ys → i < length xs → drop i ys ≡ get_or xs i d ∷ drop (i + 1) ys
+drop_next_of xs ys i d same h = ap (drop i) (sym same) ∙ drop_next xs i d h ∙ ap (λ zs. get_or xs i d ∷ drop (i + 1) zs) same

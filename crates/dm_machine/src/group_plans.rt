@@ -20,9 +20,7 @@ use crate::call::{Component, GroupCall};
 use crate::guards::lowest;
 use crate::layout::{all_chunks, pieces_of, rooms};
 use crate::plan::{Ending, Mark, Opening, Payload, Prepared};
-use crate::state::{
-    Group, Joint, MountState, Origin, Recall, Reserved, Side, WrittenZone,
-};
+use crate::state::{Group, Joint, MountState, Origin, Recall, Reserved, Side, WrittenZone};
 use crate::volumes::{chunk_at, free_slot, is_listed, least_missing, piece_at};
 use dm_base::{Bfid, Bytes, Chunk, GroupError, GroupId, NoMemory, Piece, Secs, Vsn};
 use dm_state::{GroupRecord, GroupStep};
@@ -130,26 +128,14 @@ impl Group {
         ensures { result ≡ prepared (missing_plan group self.now) }
     {
         let vsn = least_missing(&self.tables.volumes, self.conf.volumes.as_slice());
-        quiet(
-            group,
-            false,
-            &[],
-            Ending::Nothing,
-            Answer::Missing { vsn },
-        )
+        quiet(group, false, &[], Ending::Nothing, Answer::Missing { vsn })
     }
 
     fn volumes(&self, alloc: Global, group: GroupId) -> Result<Prepared, NoMemory>
         ensures { IfOk result (λ p. p ≡ prepared (volumes_plan group self.now)) }
     {
         let rows = self.all_volumes(alloc)?;
-        Ok(quiet(
-            group,
-            true,
-            &[],
-            Ending::Nothing,
-            Answer::Volumes { rows },
-        ))
+        Ok(quiet(group, true, &[], Ending::Nothing, Answer::Volumes { rows }))
     }
 
     // Why a volume can't be mounted now.
@@ -598,7 +584,8 @@ fn are_written(
     ensures { IfOk result (λ b. b ≡ are_written_of bytes.now reserved.now written.now 0 reserved.now.pieces) }
 {
     for (index, piece) in reserved.pieces.as_slice().iter().enumerate() {
-        if !is_written(alloc, bytes, reserved, *piece, written, index)? {
+        let holds = is_written(alloc, bytes, reserved, *piece, written, index)?;
+        if !holds {
             return Ok(false);
         }
     }

@@ -312,9 +312,10 @@ fn prepare_mounted(
             len,
             bytes,
         } => read_chunk(alloc, worker, group, image, mount, (*place, *len), bytes),
-        VolumeCall::Relabel { mount: number, epoch } => {
-            relabel(alloc, group, vsn, image, mount, *number, *epoch)
-        }
+        VolumeCall::Relabel {
+            mount: number,
+            epoch,
+        } => { relabel(alloc, group, vsn, image, mount, *number, *epoch) }
     }
 }
 
