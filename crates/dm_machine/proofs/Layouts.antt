@@ -1,20 +1,17 @@
 -- Steps of loops that lay out a bitfile.
-use Rattle.std.proofs.Common.{◌≡◌, ◌⊎◌, inl, inr, ℕ, zero, suc, ◌+◌, ◌-◌, ◌*◌, ◌<◌, ◌≤◌, ◌^◌, ◌/◌, ◌%◌, min, List, [], ◌∷◌, ◌++◌, length, get_or, drop, refl, sym, ap, subst, ◌∙◌, append_assoc, arith, true, false, nat_eq, cond}
-use Rattle.std.specs.Int.{div_ceil}
-use Rattle.std.specs.List.{flat_map, AllByRecursion}
+use Rattle.std.proofs.Common.{◌≡◌, inl, inr, ℕ, zero, suc, ◌+◌, ◌-◌, ◌*◌, ◌<◌, ◌≤◌, ◌^◌, min, List, [], ◌∷◌, ◌++◌, length, get_or, drop, refl, sym, ap, subst, ◌∙◌, append_assoc, arith, cond}
+use Rattle.std.specs.List.{AllByRecursion}
 use Rattle.std.proofs.Math.Seq.{drop-cons}
 use Rattle.std.proofs.lemmas.List.{append-nil}
 use Rattle.std.proofs.lemmas.Bool.{cases_lt, ne_eqb}
 use Rattle.std.proofs.lemmas.Grind.{div_ceil_times}
-use Rattle.std.proofs.Math.Nat.{mul-le-mul_right, mul-le-mul_left}
-use Rattle.dm_base.specs.declared.serial.Vsn.{Vsn}
+use Rattle.std.proofs.Math.Nat.{mul-le-mul_right}
 use Rattle.dm_base.specs.declared.volume.Piece.{Piece}
 use Rattle.dm_base.specs.declared.volume.Chunk.{Chunk}
 use Rattle.dm_rules.specs.declared.space.Space.{Space}
 use Rattle.dm_rules.specs.Numbers.{lesser}
 use Rattle.dm_rules.specs.Plan.{rooms, pieces_of, chunks_at, chunks_of, all_chunks, zone_end}
-use Rattle.dm_rules.specs.Room.{room}
-use Rattle.dm_rules.specs.Zone.{chunk_header, chunk_count, zone_header, zone_length}
+use Rattle.dm_rules.specs.Zone.{chunk_header, chunk_count}
 use Rattle.dm_machine.specs.Laid.{IsLaid, IsOpen}
 
 -- what is left of a list, an element taken

@@ -1,5 +1,5 @@
 -- What is left of the plan of a call once its tests are made.
-use Rattle.std.proofs.Common.{◌≡◌, ℕ, Bool, Option, Some, None, List, [], ◌∷◌, ◌++◌, cond, true, refl, sym, ap, ◌∙◌}
+use Rattle.std.proofs.Common.{◌≡◌, ℕ, Bool, Option, Some, None, [], ◌∷◌, ◌++◌, cond, true, refl, sym, ap, ◌∙◌}
 use Rattle.std.proofs.lemmas.Bool.{ne_eqb}
 use Rattle.std.specs.FinMap as map
 use Rattle.dm_base.specs.declared.identifier.Bfid.{Bfid}
@@ -11,12 +11,8 @@ use Rattle.dm_machine.specs.declared.state.Group.{Group}
 use Rattle.dm_machine.specs.Volumes.{chunk_at}
 use Rattle.dm_machine.specs.GroupCalls.{asking_group, mount_chunk_in, mount_chunk_of}
 use Rattle.dm_machine.specs.declared.answer.Answer.{Answer}
-use Rattle.dm_machine.specs.declared.plan.Ending.{Ending}
-use Rattle.dm_machine.specs.declared.plan.Mark.{Mark}
 use Rattle.dm_machine.specs.declared.plan.Mark.TheVariants as mark
-use Rattle.dm_machine.specs.declared.plan.Opening.{Opening}
 use Rattle.dm_machine.specs.declared.plan.Opening.TheVariants as opening
-use Rattle.dm_machine.specs.declared.plan.Payload.{Payload}
 use Rattle.dm_machine.specs.declared.plan.Prepared.{Prepared}
 use Rattle.dm_machine.specs.Tests.{first_true, lowest_false}
 use Rattle.dm_machine.specs.Plan.{Plan, prepared, needed, guards_of, if_accepted, answered}

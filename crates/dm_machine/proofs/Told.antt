@@ -1,11 +1,9 @@
 -- Loops over a group's volumes and bitfiles.
-use Rattle.std.proofs.Common.{◌≡◌, ℕ, zero, suc, ◌+◌, ◌-◌, ◌<◌, ◌≤◌, ◌%◌, min, List, [], ◌∷◌, ◌++◌, length, get_or, drop, refl, sym, ap, subst, ◌∙◌, append_assoc, arith, Bool, true, false, cond, nat_eq, ◌&&◌, Option, Some, None, ◌⊎◌, inl, inr}
+use Rattle.std.proofs.Common.{◌≡◌, ℕ, zero, suc, ◌+◌, ◌-◌, ◌<◌, ◌≤◌, ◌%◌, min, List, [], ◌∷◌, ◌++◌, length, get_or, drop, sym, ap, subst, ◌∙◌, append_assoc, arith, Bool, true, false, cond, nat_eq, ◌&&◌, Option, Some, None, inl, inr}
 use Rattle.std.specs.List.{flat_map, AllByRecursion}
-use Rattle.std.specs.Option.{option_to_list}
 use Rattle.std.specs.FinMap as map
 use Rattle.std.proofs.lemmas.List.{append-nil}
 use Rattle.std.proofs.lemmas.Bool.{cases_lt, eq-eqb, ne_eqb, le-ltb}
-use Rattle.dm_base.specs.declared.serial.Vsn.{Vsn}
 use Rattle.dm_base.specs.declared.volume.Chunk.{Chunk}
 use Rattle.dm_base.specs.declared.volume.Piece.{Piece}
 use Rattle.dm_base.specs.declared.volume.VolRow.{VolRow}
@@ -24,9 +22,9 @@ use Rattle.dm_machine.specs.declared.state.Reserved.{Reserved}
 use Rattle.dm_machine.specs.declared.state.WrittenZone.{WrittenZone}
 use Rattle.dm_machine.specs.GroupCalls.{piece_at, is_zone_of, are_written}
 use Rattle.dm_machine.specs.Laid.{IsOpen}
-use Rattle.dm_machine.specs.Volumes.{same_text, space_if, spaces, of_serial, volume_row, all_volumes, chunk_at, live_in, live_on, free_slot, serial_of}
+use Rattle.dm_machine.specs.Volumes.{same_text, space_if, spaces, of_serial, volume_row, all_volumes, chunk_at, live_in, live_on, free_slot}
 use Rattle.dm_rules.specs.Room.{room, held}
-use Rattle.dm_rules.specs.Zone.{chunk_header, zone_length}
+use Rattle.dm_rules.specs.Zone.{chunk_header}
 use Rattle.dm_zone.proofs.RoomLemmas.{room_none, room_some, room_fits}
 
 abbrev pub spaces_in : Group → List (List ℕ × VolumeRow) → List Space

@@ -1,7 +1,6 @@
-use Rattle.std.proofs.Common.{◌≡◌, ◌+◌, ◌<◌, ◌≤◌, ◌∷◌, [], List, length, arith, ap, sym, ◌∙◌, get_or, drop, refl}
+use Rattle.std.proofs.Common.{[], ap, sym, ◌∙◌, drop, refl}
 use Rattle.std.proofs.lemmas.List.{drop_all}
 use Rattle.dm_base.specs.declared.volume.Piece.{Piece}
-use Rattle.dm_machine.proofs.Layouts.{drop_next}
 use Rattle.dm_machine.proofs.Told.{written_on, written_not, written_end, drop_next_of}
 use Rattle.dm_machine.proofs.group_plans.are_written.Goals as goal
 

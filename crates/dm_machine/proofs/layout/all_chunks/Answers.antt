@@ -1,4 +1,4 @@
-use Rattle.std.proofs.Common.{drop, arith, get_or, ◌+◌, ◌∙◌, []}
+use Rattle.std.proofs.Common.{get_or, ◌∙◌, []}
 use Rattle.std.proofs.lemmas.List.{drop_all}
 use Rattle.dm_base.specs.declared.volume.Piece.{Piece}
 use Rattle.dm_machine.proofs.Layouts.{drop_next, spread_begin, spread_first, spread_on, spread_end}

@@ -1,4 +1,4 @@
-use Rattle.std.proofs.Common.{arith, ◌-◌, ◌+◌, ◌∙◌, ap, refl}
+use Rattle.std.proofs.Common.{arith, ◌-◌, ◌+◌, refl}
 use Rattle.dm_machine.proofs.Layouts.{cut_begin, cut_on, cut_end}
 use Rattle.dm_machine.proofs.layout.put_chunks.Goals as goal
 

@@ -1,4 +1,4 @@
-use Rattle.std.proofs.Common.{drop, arith, rules, refl, get_or, ◌+◌, []}
+use Rattle.std.proofs.Common.{drop, arith, get_or, ◌+◌, []}
 use Rattle.std.proofs.lemmas.List.{drop_all}
 use Rattle.dm_rules.specs.declared.space.Space.{Space}
 use Rattle.dm_machine.proofs.Layouts.{drop_next, summed_on, summed_end}

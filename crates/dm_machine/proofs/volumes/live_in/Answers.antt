@@ -1,4 +1,4 @@
-use Rattle.std.proofs.Common.{arith, refl, sym, ◌∙◌, [], ap, ◌+◌, ◌≡◌}
+use Rattle.std.proofs.Common.{arith, sym, ◌∙◌, [], ap, ◌+◌, ◌≡◌}
 use Rattle.std.proofs.lemmas.List.{drop_all}
 use Rattle.dm_rules.specs.Numbers.{narrowed}
 use Rattle.dm_machine.specs.Volumes.{live_in, same_text}

@@ -1,4 +1,4 @@
-use Rattle.std.proofs.Common.{arith, refl, sym, ◌∙◌, ap}
+use Rattle.std.proofs.Common.{arith, ◌∙◌, ap}
 use Rattle.dm_tables.specs.Totals.{sum_of}
 use Rattle.dm_rules.specs.Numbers.{narrowed}
 use Rattle.dm_machine.specs.Volumes.{live_in}

@@ -1,4 +1,4 @@
-use Rattle.std.proofs.Common.{◌∙◌, ap, [], ◌∷◌, ◌≡◌, sym}
+use Rattle.std.proofs.Common.{◌∙◌, ap, [], ◌∷◌}
 use Rattle.dm_machine.specs.Volumes.{of_serial, volume_row}
 use Rattle.dm_machine.proofs.Told.{told_begin, told_more, told_none, told_end}
 use Rattle.dm_machine.proofs.state.Group.all_volumes.Goals as goal

@@ -1,4 +1,4 @@
-use Rattle.std.proofs.Common.{◌∙◌, ap, [], ◌∷◌, ◌≡◌, subst, sym}
+use Rattle.std.proofs.Common.{◌∙◌, ap, subst, sym}
 use Rattle.std.specs.List.{AllByRecursion}
 use Rattle.dm_machine.specs.Laid.{IsOpen}
 use Rattle.dm_machine.specs.Volumes.{of_serial, space_if}
