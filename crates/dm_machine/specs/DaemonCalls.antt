@@ -138,22 +138,26 @@ changed_in r = changed_by r.found
     changed_by None = []
     changed_by (Some found) = (true, refused (error.Changed r.was found)) ∷ []
 
+-- no put of a file begins that is stored or being stored, nor where an entry or a counter more would be too many
+abbrev pub put_refusals : Daemon → File → List (Bool × Answer)
+put_refusals d f =
+    let state = state_of d.requests f.number f.inode.contents in
+    (not (is_regular state), refused (error.WrongState state))
+    ∷ (nat_le entries_limit (map.len d.tables.entries), refused (error.TooMany entries_limit))
+    ∷ (nat_lt last_number d.tables.counter, refused (error.TooMany last_number))
+    ∷ []
+
 abbrev pub begin_put : Joint → List ℕ → List (Option GroupId) → ℕ → ℕ → Option File → Plan
 begin_put j path asked now k None = record no_file { own = (may_ask j.sides asked, 4) ∷ [] }
 begin_put j path asked now k (Some f) =
     let d = j.daemon in
-    let state = state_of d.requests f.number f.inode.contents in
     let b : Bfid = record { 0 = bfid_of d.tables.site d.tables.counter } in
     let bytes = bytes_online f.inode.contents in
     let groups = groups_of asked in
     record (asking (answer.PutBegun k b bytes f.inode.change)) {
       own = (may_ask j.sides asked, 4) ∷ [];
       making = (is_free d.requests k, 2) ∷ [];
-      refusals =
-          (not (is_regular state), refused (error.WrongState state))
-          ∷ (nat_le entries_limit (map.len d.tables.entries), refused (error.TooMany entries_limit))
-          ∷ (nat_lt last_number d.tables.counter, refused (error.TooMany last_number))
-          ∷ [];
+      refusals = put_refusals d f;
       payload = journalled d now (step.BeginPut path b groups);
       opens = opening.Put k (record { ino = record { 0 = f.number }; bfid = b; was = f.inode.change; found = None; kind = kind.Put }) (length bytes) groups;
     }

@@ -27,9 +27,12 @@ pub record File : Type 0 where
   pub number : ℕ
   pub inode : Inode
 
+abbrev pub numbered : ℕ → Inode → File
+numbered n i = record { number = n; inode = i }
+
 abbrev pub file_of : ℕ → Option Inode → Option File
 file_of n None = None
-file_of n (Some i) = Some (record { number = n; inode = i })
+file_of n (Some i) = Some (numbered n i)
 
 abbrev pub file_named : Numbered Inode → Option Ino → Option File
 file_named inodes None = None

@@ -227,6 +227,9 @@ abort g s n (Some r) =
       ends = ending.Reservation g n r.bfid;
     }
 
+abbrev pub volumes : GroupId → Group → Plan
+volumes g group = asking_group g (answer.Volumes (all_volumes group))
+
 abbrev pub side_plan : Joint → ℕ → GroupId → Side → GroupCall → Plan
 side_plan j w g s call.Missing = missing g s.group
 side_plan j w g s (call.MountNew vsn m) = mount_new g s.group vsn m
@@ -237,7 +240,7 @@ side_plan j w g s (call.MountChunk b offset m) = mount_chunk w g j s.group b off
 side_plan j w g s (call.Unmount m) = unmount g m (map.get s.group.mounts m)
 side_plan j w g s (call.Commit n now) = commit j g s n now.0 (map.get s.group.reservations n)
 side_plan j w g s (call.Abort n) = abort g s n (map.get s.group.reservations n)
-side_plan j w g s call.Volumes = asking_group g (answer.Volumes (all_volumes s.group))
+side_plan j w g s call.Volumes = volumes g s.group
 
 abbrev pub group_plan : Joint → ℕ → GroupId → Option Side → GroupCall → Plan
 group_plan j w g None c = no_group g

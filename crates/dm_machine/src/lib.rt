@@ -6,10 +6,29 @@
 #![tactic(auto)]
 
 mod answer;
+mod begin;
 mod call;
+mod copies;
+mod daemon_plans;
+mod endings;
+mod files;
+mod group_plans;
 mod guards;
+mod layout;
+mod limits;
+mod marks;
+mod openings;
+mod payloads;
 mod plan;
+mod prepared;
+mod puts;
+mod recalls;
 mod state;
+mod step;
+mod volume_plans;
+mod volumes;
+mod work;
+mod writes;
 
 pub use answer::Answer;
 pub use call::{Call, Component, DaemonCall, Event, GroupCall, VolumeCall};
@@ -18,3 +37,7 @@ pub use state::{
     CopyReservation, CopyState, Daemon, Group, Image, Joint, MountState, Mounted, OpenRequest,
     Origin, Recall, RequestKind, Reserved, Side, Worker, WrittenZone,
 };
+pub use step::StepError;
+
+#[cfg(test)]
+mod tests;

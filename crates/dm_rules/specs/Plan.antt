@@ -4,14 +4,9 @@ use Rattle.std.specs.List.{flat_map}
 use Rattle.dm_base.specs.declared.serial.Vsn.{Vsn}
 use Rattle.dm_base.specs.declared.volume.Piece.{Piece}
 use Rattle.dm_base.specs.declared.volume.Chunk.{Chunk}
+use Rattle.dm_rules.specs.declared.space.Space.{Space}
 use Rattle.dm_rules.specs.Numbers.{lesser}
 use Rattle.dm_rules.specs.Zone.{zone_header, zone_length, chunk_count}
-
--- a volume that may take a piece: the place of its next zone, and the longest piece that this zone can hold
-pub record Space : Type 0 where
-  pub vsn : Vsn
-  pub tip : ℕ
-  pub room : ℕ
 
 -- how many bytes the volumes can hold together
 abbrev pub rooms : List Space → ℕ

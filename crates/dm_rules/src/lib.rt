@@ -4,6 +4,10 @@
 //! `specs/`, one file a subject, and in prose in docs/DEFINITIONS.md.
 #![tactic(auto)]
 
+mod space;
+
+pub use space::Space;
+
 /// The length of a zone's header.
 pub const ZONE_HEADER: u64 = 32;
 
