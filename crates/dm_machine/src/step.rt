@@ -24,9 +24,11 @@ pub enum StepError {
 }
 
 impl From<NoMemory> for StepError {
-    fn from(_refused: NoMemory) -> StepError
-        ensures { result ≡ StepError.NoMemory }
-    {
+    ghost use Rattle.dm_machine.specs.declared.step.StepError.TheVariants.{NoMemory as OutOfMemory};
+
+    ghost from_gives = { λ _ e. e ≡ OutOfMemory };
+
+    fn from(_refused: NoMemory) -> StepError {
         StepError::NoMemory
     }
 }
