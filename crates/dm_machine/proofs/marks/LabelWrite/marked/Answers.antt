@@ -1,4 +1,3 @@
-use Rattle.std.proofs.Common.{refl}
 use Rattle.dm_tables.proofs.Orders.{numbers}
 use Rattle.dm_machine.proofs.Changed.{put_back, none_there}
 use Rattle.dm_machine.proofs.marks.LabelWrite.marked.Goals as goal

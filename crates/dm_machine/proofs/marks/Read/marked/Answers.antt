@@ -1,6 +1,5 @@
 use Rattle.std.proofs.Common.{ap}
 use Rattle.dm_tables.proofs.Orders.{numbers}
-use Rattle.dm_machine.specs.declared.state.Worker.{Worker}
 use Rattle.dm_machine.proofs.Changed.{put_back, none_there}
 use Rattle.dm_machine.proofs.marks.Read.marked.Goals as goal
 
