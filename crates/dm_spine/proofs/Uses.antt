@@ -203,7 +203,8 @@ module _ {S N E : Type 0} {m : Meaning S N E} (ok : Lawful m) {p : S} {x : N} {v
   pub given_sound : IsSound m p w'
   given_sound = let P : View E N → Type 0 = λ u. IsSound m p u in subst P (sym g.given) g.together.sound
 
--- A name goes from a pass k to a pass w, which draws one entry, and back. The views: k, k1, k2 and w, w1, w2, w3.
+-- A name goes from a pass to another one, which draws one entry, and back. The views of the one are called k, those of the
+-- other w, each with the number of what was done since.
 module _ {S N E : Type 0} {m : Meaning S N E} (ok : Lawful m) {p : S} {x : N} {e : E} {n : ℕ} {k w k1 w1 w2 k2 w3 : View E N}
     (there : Gives m p x k w k1 w1) (drew : Draws m p e w1 n w2) (back : Gives m p x w2 k1 w3 k2) where
   -- its chain is the old one with the entry at its end
