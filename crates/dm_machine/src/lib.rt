@@ -38,6 +38,3 @@ pub use state::{
     Origin, Recall, RequestKind, Reserved, Side, Worker, WrittenZone,
 };
 pub use step::StepError;
-
-#[cfg(test)]
-mod tests;
