@@ -80,62 +80,29 @@ fn texts(rt: HostRuntime) -> Result<(), Fail> {
     Ok(())
 }
 
+fn names_state(alloc: Global, found: FileState, text: &[u8]) -> bool {
+    prints(alloc, &Reply::WrongState { found }, text)
+}
+
 #[test]
-fn more_texts(rt: HostRuntime) {
+fn texts_of_states(rt: HostRuntime) {
     let alloc = rt.alloc();
-    assert!(rt;
-        prints(
-            alloc,
-            &Reply::WrongState {
-                found: FileState::Regular
-            },
-            b"err state REG\n"
-        )
-    );
-    assert!(rt;
-        prints(
-            alloc,
-            &Reply::WrongState {
-                found: FileState::Migrating
-            },
-            b"err state MIG\n"
-        )
-    );
-    assert!(rt;
-        prints(
-            alloc,
-            &Reply::WrongState {
-                found: FileState::Dual
-            },
-            b"err state DUL\n"
-        )
-    );
-    assert!(rt;
-        prints(
-            alloc,
-            &Reply::WrongState {
-                found: FileState::Unmigrating
-            },
-            b"err state UNM\n"
-        )
-    );
-    assert!(rt;
-        prints(
-            alloc,
-            &Reply::GroupFault { group: GroupId(2) },
-            b"err group 2\n"
-        )
-    );
-    assert!(rt;
-        prints(
-            alloc,
-            &Reply::CopiesFault {
-                group: GroupId(1),
-                faults: 3
-            },
-            b"err copies 1:3\n"
-        )
-    );
+    assert!(rt; names_state(alloc, FileState::Regular, b"err state REG\n"));
+    assert!(rt; names_state(alloc, FileState::Migrating, b"err state MIG\n"));
+    assert!(rt; names_state(alloc, FileState::Dual, b"err state DUL\n"));
+    assert!(rt; names_state(alloc, FileState::Unmigrating, b"err state UNM\n"));
+}
+
+#[test]
+fn texts_of_faults(rt: HostRuntime) {
+    let alloc = rt.alloc();
+    let fault = Reply::GroupFault { group: GroupId(2) };
+    assert!(rt; prints(alloc, &fault, b"err group 2\n"));
+    let copies = Reply::CopiesFault {
+        group: GroupId(1),
+        faults: 3,
+    };
+    assert!(rt; prints(alloc, &copies, b"err copies 1:3\n"));
     assert!(rt; prints(alloc, &Reply::NoMemory, b"err memory\n"));
     assert!(rt; prints(alloc, &Reply::Syntax, b"err syntax\n"));
 }

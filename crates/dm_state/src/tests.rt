@@ -23,93 +23,94 @@ fn after(alloc: Global, tables: DaemonTables, step: DaemonStep) -> Result<Daemon
     tables.applied(alloc, &next.copied(alloc)?)
 }
 
+fn written(
+    rt: &impl Abort,
+    alloc: Global,
+    tables: DaemonTables,
+    change: u64,
+    bytes: &[u8],
+) -> Result<DaemonTables, NoMemory> {
+    let step = DaemonStep::Write {
+        path: path(rt, alloc),
+        change,
+        bytes: text(alloc, bytes)?,
+    };
+    after(alloc, tables, step)
+}
+
+// A file of five bytes, whose put has begun.
+fn making(rt: &impl Abort, alloc: Global) -> Result<DaemonTables, NoMemory> {
+    let tables = written(rt, alloc, DaemonTables::empty(alloc, 1, 1), 1, b"hello")?;
+    let step = DaemonStep::BeginPut {
+        path: path(rt, alloc),
+        bfid: FIRST,
+        groups: Listed::from_vec(Vec::from_slice(alloc, &[GroupId(1)])?),
+    };
+    after(alloc, tables, step)
+}
+
+// The put has ended, with its copy stored.
+fn stored(rt: &impl Abort, alloc: Global) -> Result<DaemonTables, NoMemory> {
+    let stored = DaemonStep::Stored {
+        bfid: FIRST,
+        group: GroupId(1),
+    };
+    let tables = after(alloc, making(rt, alloc)?, stored)?;
+    let ended = DaemonStep::EndPut {
+        ino: Ino(1),
+        bfid: FIRST,
+        dual: true,
+    };
+    after(alloc, tables, ended)
+}
+
 #[test]
-fn applies_steps_of_the_daemon(rt: HostRuntime) -> Result<(), Fail> {
+fn applies_the_steps_of_a_put(rt: HostRuntime) -> Result<(), Fail> {
     let alloc = rt.alloc();
-    let bytes = text(alloc, b"hello")?;
-    let mut tables = DaemonTables::empty(alloc, 1, 1);
-    tables = after(
-        alloc,
-        tables,
-        DaemonStep::Write {
-            path: path(&rt, alloc),
-            change: 1,
-            bytes,
-        },
-    )?;
+    let tables = making(&rt, alloc)?;
     assert!(rt; matches!(tables.names.get(b"/a"), Some(Ino(1))));
-    let groups = Listed::from_vec(Vec::from_slice(alloc, &[GroupId(1)])?);
-    tables = after(
-        alloc,
-        tables,
-        DaemonStep::BeginPut {
-            path: path(&rt, alloc),
-            bfid: FIRST,
-            groups,
-        },
-    )?;
     assert_eq!(rt; tables.counter, 2);
     let entry = tables.entries.get(FIRST.0).expect(&rt, "the entry");
     assert_eq!(rt; entry.len, 5);
     assert!(rt; entry.asks(GroupId(1)) && !entry.asks(GroupId(2)) && !entry.has_stored(GroupId(1)));
-    tables = after(
-        alloc,
-        tables,
-        DaemonStep::Stored {
-            bfid: FIRST,
-            group: GroupId(1),
-        },
-    )?;
+    let tables = stored(&rt, alloc)?;
     let entry = tables.entries.get(FIRST.0).expect(&rt, "the entry");
     assert!(rt; entry.has_stored(GroupId(1)) && entry.is_stored() && entry.is_complete());
-    tables = after(
-        alloc,
-        tables,
-        DaemonStep::EndPut {
-            ino: Ino(1),
-            bfid: FIRST,
-            dual: true,
-        },
-    )?;
     let contents = &tables.inodes.get(1).expect(&rt, "the inode").contents;
     assert!(rt; matches!(contents, Contents::Dual { .. }));
-    tables = after(
-        alloc,
-        tables,
-        DaemonStep::Release {
-            path: path(&rt, alloc),
-        },
-    )?;
+    Ok(())
+}
+
+#[test]
+fn applies_the_steps_of_a_recall(rt: HostRuntime) -> Result<(), Fail> {
+    let alloc = rt.alloc();
+    let release = DaemonStep::Release {
+        path: path(&rt, alloc),
+    };
+    let tables = after(alloc, stored(&rt, alloc)?, release)?;
     let contents = &tables.inodes.get(1).expect(&rt, "the inode").contents;
     assert!(rt; matches!(contents, Contents::Offline { len: 5, .. }));
     assert_eq!(rt; contents.len(), 5);
     assert!(rt; contents.bytes().is_none());
     let bytes = text(alloc, b"hello")?;
-    tables = after(alloc, tables, DaemonStep::Taken { ino: Ino(1), bytes })?;
+    let tables = after(alloc, tables, DaemonStep::Taken { ino: Ino(1), bytes })?;
     let contents = &tables.inodes.get(1).expect(&rt, "the inode").contents;
     assert_eq!(rt; contents.bitfile(), Some(FIRST));
     assert!(rt; contents.bytes().is_some());
-    let bytes = text(alloc, b"bye")?;
-    tables = after(
-        alloc,
-        tables,
-        DaemonStep::Write {
-            path: path(&rt, alloc),
-            change: 2,
-            bytes,
-        },
-    )?;
+    Ok(())
+}
+
+#[test]
+fn lets_a_bitfile_go(rt: HostRuntime) -> Result<(), Fail> {
+    let alloc = rt.alloc();
+    let tables = written(&rt, alloc, stored(&rt, alloc)?, 2, b"bye")?;
     let entry = tables.entries.get(FIRST.0).expect(&rt, "the entry");
     assert_eq!(rt; entry.gone, Some(Secs(50)));
-    tables = after(
-        alloc,
-        tables,
-        DaemonStep::Remove {
-            path: path(&rt, alloc),
-            change: 3,
-        },
-    )?;
-    let copy = tables.copied(alloc)?;
+    let remove = DaemonStep::Remove {
+        path: path(&rt, alloc),
+        change: 3,
+    };
+    let copy = after(alloc, tables, remove)?.copied(alloc)?;
     assert!(rt; copy.names.is_empty() && copy.inodes.is_empty() && copy.change == 3);
     Ok(())
 }
