@@ -7,11 +7,11 @@ use Rattle.dm_base.specs.declared.serial.Vsn.{Vsn}
 use Rattle.dm_state.specs.Daemon.{empty_tables}
 use Rattle.dm_state.specs.Group.{empty_group}
 use Rattle.dm_state.specs.Tables.{Numbered, Named}
-use Rattle.dm_machine.specs.declared.state.Daemon.{Daemon}
-use Rattle.dm_machine.specs.declared.state.Group.{Group}
-use Rattle.dm_machine.specs.declared.state.Image.{Image}
+use Rattle.dm_parts.specs.declared.state.Daemon.{Daemon}
+use Rattle.dm_parts.specs.declared.state.Group.{Group}
+use Rattle.dm_parts.specs.declared.state.Image.{Image}
 use Rattle.dm_machine.specs.declared.state.Joint.{Joint}
-use Rattle.dm_machine.specs.declared.state.Side.{Side}
+use Rattle.dm_parts.specs.declared.state.Side.{Side}
 
 -- a daemon with no file and no request
 abbrev pub new_daemon : DaemonConf → Daemon

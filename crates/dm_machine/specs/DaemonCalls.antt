@@ -11,19 +11,19 @@ use Rattle.dm_state.specs.declared.daemon.Contents.{Contents}
 use Rattle.dm_state.specs.declared.daemon.Contents.TheVariants as contents
 use Rattle.dm_state.specs.declared.daemon.DaemonStep.TheVariants as step
 use Rattle.dm_state.specs.declared.daemon.Entry.{Entry}
-use Rattle.dm_machine.specs.declared.answer.Answer.{Answer}
-use Rattle.dm_machine.specs.declared.answer.Answer.TheVariants as answer
-use Rattle.dm_machine.specs.declared.call.Component.TheVariants as component
-use Rattle.dm_machine.specs.declared.call.DaemonCall.{DaemonCall}
-use Rattle.dm_machine.specs.declared.call.DaemonCall.TheVariants as call
-use Rattle.dm_machine.specs.declared.state.CopyState.{CopyState}
-use Rattle.dm_machine.specs.declared.state.Daemon.{Daemon}
+use Rattle.dm_parts.specs.declared.answer.Answer.{Answer}
+use Rattle.dm_parts.specs.declared.answer.Answer.TheVariants as answer
+use Rattle.dm_parts.specs.declared.call.Component.TheVariants as component
+use Rattle.dm_parts.specs.declared.call.DaemonCall.{DaemonCall}
+use Rattle.dm_parts.specs.declared.call.DaemonCall.TheVariants as call
+use Rattle.dm_parts.specs.declared.state.CopyState.{CopyState}
+use Rattle.dm_parts.specs.declared.state.Daemon.{Daemon}
 use Rattle.dm_machine.specs.declared.state.Joint.{Joint}
-use Rattle.dm_machine.specs.declared.state.OpenRequest.{OpenRequest}
-use Rattle.dm_machine.specs.declared.state.RequestKind.TheVariants as kind
-use Rattle.dm_machine.specs.declared.state.Recall.{Recall}
-use Rattle.dm_machine.specs.declared.state.Side.{Side}
-use Rattle.dm_machine.specs.declared.state.Worker.{Worker}
+use Rattle.dm_parts.specs.declared.state.OpenRequest.{OpenRequest}
+use Rattle.dm_parts.specs.declared.state.RequestKind.TheVariants as kind
+use Rattle.dm_parts.specs.declared.state.Recall.{Recall}
+use Rattle.dm_parts.specs.declared.state.Side.{Side}
+use Rattle.dm_parts.specs.declared.state.Worker.{Worker}
 use Rattle.dm_tables.specs.Rows.{any}
 use Rattle.dm_rules.specs.Numbers.{greater, narrowed}
 use Rattle.dm_state.specs.Tables.{Numbered}
@@ -31,14 +31,14 @@ use Rattle.dm_state.specs.Limits.{file_limit, files_limit, entries_limit, last_n
 use Rattle.dm_state.specs.Inodes.{bytes_online}
 use Rattle.dm_state.specs.Entries.{asks, has_stored, is_stored}
 use Rattle.dm_state.specs.Daemon.{bfid_of}
-use Rattle.dm_machine.specs.Files.{File, file_at, is_put, is_recall, state_of, is_regular, is_dual, is_away, row_of, all_rows, size_of, length_at, groups_of, asked_by}
-use Rattle.dm_machine.specs.Effects.{reads_or}
-use Rattle.dm_machine.specs.Volumes.{same_text}
-use Rattle.dm_machine.specs.Plan.{Plan, quiet}
-use Rattle.dm_machine.specs.declared.plan.Ending.TheVariants as ending
-use Rattle.dm_machine.specs.declared.plan.Opening.TheVariants as opening
-use Rattle.dm_machine.specs.declared.plan.Payload.{Payload}
-use Rattle.dm_machine.specs.declared.plan.Payload.TheVariants as payload
+use Rattle.dm_parts.specs.Files.{File, file_at, is_put, is_recall, state_of, is_regular, is_dual, is_away, row_of, all_rows, size_of, length_at, groups_of, asked_by}
+use Rattle.dm_changes.specs.Changes.{reads_or}
+use Rattle.dm_parts.specs.Volumes.{same_text}
+use Rattle.dm_parts.specs.Plan.{Plan, quiet}
+use Rattle.dm_parts.specs.declared.plan.Ending.TheVariants as ending
+use Rattle.dm_parts.specs.declared.plan.Opening.TheVariants as opening
+use Rattle.dm_parts.specs.declared.plan.Payload.{Payload}
+use Rattle.dm_parts.specs.declared.plan.Payload.TheVariants as payload
 use Rattle.dm_state.specs.declared.daemon.DaemonStep.{DaemonStep}
 use Rattle.dm_state.specs.declared.daemon.Inode.{Inode}
 

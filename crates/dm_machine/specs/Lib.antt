@@ -1,11 +1,4 @@
-pub mod Tests
-pub mod Plan
-pub mod Files
-pub mod Laid
-pub mod Volumes
 pub mod Effects
 pub mod DaemonCalls
-pub mod GroupCalls
-pub mod VolumeCalls
 pub mod Step
 pub mod Begin

@@ -3,25 +3,25 @@ use Rattle.std.specs.Prelude.{◌≡◌, ℕ, Bool, cond, ◌&&◌, Option, None
 use Rattle.std.specs.FinMap as map
 use Rattle.dm_state.specs.declared.daemon.DaemonRecord.{DaemonRecord}
 use Rattle.dm_state.specs.declared.group.GroupRecord.{GroupRecord}
-use Rattle.dm_machine.specs.declared.answer.Answer.{Answer}
-use Rattle.dm_machine.specs.declared.answer.Answer.TheVariants.{Failed, Landed}
-use Rattle.dm_machine.specs.declared.call.Call.{Call}
-use Rattle.dm_machine.specs.declared.call.Call.TheVariants as call
-use Rattle.dm_machine.specs.declared.call.Component.{Component}
-use Rattle.dm_machine.specs.declared.call.Component.TheVariants as component
-use Rattle.dm_machine.specs.declared.call.Event.{Event}
-use Rattle.dm_machine.specs.declared.call.Event.TheVariants as event
+use Rattle.dm_parts.specs.declared.answer.Answer.{Answer}
+use Rattle.dm_parts.specs.declared.answer.Answer.TheVariants.{Failed, Landed}
+use Rattle.dm_parts.specs.declared.call.Call.{Call}
+use Rattle.dm_parts.specs.declared.call.Call.TheVariants as call
+use Rattle.dm_parts.specs.declared.call.Component.{Component}
+use Rattle.dm_parts.specs.declared.call.Component.TheVariants as component
+use Rattle.dm_parts.specs.declared.call.Event.{Event}
+use Rattle.dm_parts.specs.declared.call.Event.TheVariants as event
 use Rattle.dm_machine.specs.declared.state.Joint.{Joint}
-use Rattle.dm_machine.specs.declared.state.Side.{Side}
-use Rattle.dm_machine.specs.Plan.{Plan, prepared}
-use Rattle.dm_machine.specs.declared.plan.Payload.{Payload}
-use Rattle.dm_machine.specs.declared.plan.Payload.TheVariants as payload
-use Rattle.dm_machine.specs.declared.plan.Prepared.{Prepared}
+use Rattle.dm_parts.specs.declared.state.Side.{Side}
+use Rattle.dm_parts.specs.Plan.{Plan, prepared}
+use Rattle.dm_parts.specs.declared.plan.Payload.{Payload}
+use Rattle.dm_parts.specs.declared.plan.Payload.TheVariants as payload
+use Rattle.dm_parts.specs.declared.plan.Prepared.{Prepared}
 use Rattle.dm_base.specs.declared.identifier.GroupId.{GroupId}
 use Rattle.dm_machine.specs.Effects.{ended, paid, undoubted, healed, doubted, marked, spoiled, opened}
 use Rattle.dm_machine.specs.DaemonCalls.{daemon_plan}
-use Rattle.dm_machine.specs.GroupCalls.{group_plan}
-use Rattle.dm_machine.specs.VolumeCalls.{volume_plan}
+use Rattle.dm_plans.specs.GroupCalls.{group_plan}
+use Rattle.dm_plans.specs.VolumeCalls.{volume_plan}
 
 -- what comes of an event: a state and an answer, or that its lowest guard that is false is this
 pub data Outcome : Type 0 where
@@ -30,7 +30,7 @@ pub data Outcome : Type 0 where
 
 abbrev pub plan : Joint → ℕ → Call → Plan
 plan j w (call.Daemon c) = daemon_plan j w c
-plan j w (call.Group g c) = group_plan j w g (map.get j.sides g.0) c
+plan j w (call.Group g c) = group_plan j.daemon.contents (map.get j.workers w) g (map.get j.sides g.0) c
 plan j w (call.Volume g vsn c) = volume_plan w g vsn (map.get j.sides g.0) c
 
 -- the state after the call: what it spends goes, and a step in doubt, if it heals; its step is journalled, its mark is

@@ -3,9 +3,9 @@
 ghost use Rattle.std.specs.Prelude.{◌≡◌, IfOk};
 ghost use Rattle.dm_machine.specs.Begin.{blank_images as blank_images_of, empty_joint, new_daemon as new_daemon_of, new_side as new_side_of, new_sides as new_sides_of};
 
-use crate::copies::copied_conf;
-use crate::state::{Daemon, Group, Image, Joint, Side};
+use crate::state::Joint;
 use dm_base::{Bytes, DaemonConf, GroupConf, NoMemory, Vsn};
+use dm_parts::{Daemon, Group, Image, Side, copied_conf};
 use dm_state::{DaemonTables, GroupTables};
 use dm_tables::{Numbers, Texts};
 use std::alloc::Global;

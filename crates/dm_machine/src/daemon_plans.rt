@@ -3,16 +3,14 @@
 ghost use Rattle.std.specs.Prelude.{◌≡◌, IfOk};
 ghost use Rattle.std.specs.FinMap as finmap;
 ghost use Rattle.std.specs.Option.{option_map};
-ghost use Rattle.dm_machine.specs.Files.{numbered};
-ghost use Rattle.dm_machine.specs.Plan.{prepared};
+ghost use Rattle.dm_parts.specs.Files.{numbered};
+ghost use Rattle.dm_parts.specs.Plan.{prepared};
 ghost use Rattle.dm_machine.specs.DaemonCalls.{daemon_plan, attributes as attributes_plan};
 
-use crate::answer::Answer;
-use crate::call::DaemonCall;
-use crate::plan::{Ending, Prepared};
 use crate::prepared::{answered, no_file};
-use crate::state::{Joint, OpenRequest};
+use crate::state::Joint;
 use dm_base::{NoMemory, Path};
+use dm_parts::{Answer, DaemonCall, Ending, OpenRequest, Prepared};
 use dm_state::Inode;
 use std::alloc::Global;
 

@@ -2,19 +2,19 @@
 
 ghost use Rattle.std.specs.Prelude.{◌≡◌, true, None, map};
 ghost use Rattle.std.specs.Option.{option_map};
-ghost use Rattle.dm_machine.specs.Tests.{first_true};
-ghost use Rattle.dm_machine.specs.Plan.{prepared};
-ghost use Rattle.dm_machine.specs.DaemonCalls.{changed_in, is_free as is_free_of, refused, time_at, journalled as journalled_by, no_request as no_request_plan, no_file as no_file_plan};
-ghost use Rattle.dm_machine.specs.declared.call.Component.TheVariants as component;
-ghost use Rattle.dm_machine.specs.declared.plan.Ending.TheVariants as ending;
-ghost use Rattle.dm_machine.specs.declared.plan.Mark.TheVariants as mark;
-ghost use Rattle.dm_machine.specs.declared.plan.Opening.TheVariants as opening;
+ghost use Rattle.dm_parts.specs.Tests.{first_true};
+ghost use Rattle.dm_parts.specs.Plan.{prepared};
+ghost use Rattle.dm_machine.specs.DaemonCalls.{changed_in, is_free as is_free_of, refused, time_at as time_at_of, journalled as journalled_by, no_request as no_request_plan, no_file as no_file_plan};
+ghost use Rattle.dm_parts.specs.declared.call.Component.TheVariants as component;
+ghost use Rattle.dm_parts.specs.declared.plan.Ending.TheVariants as ending;
+ghost use Rattle.dm_parts.specs.declared.plan.Mark.TheVariants as mark;
+ghost use Rattle.dm_parts.specs.declared.plan.Opening.TheVariants as opening;
 
-use crate::answer::Answer;
-use crate::call::Component;
-use crate::plan::{Ending, Mark, Opening, Payload, Prepared};
-use crate::state::{Daemon, Joint, OpenRequest, RequestKind};
+use crate::state::Joint;
 use dm_base::{Bfid, DaemonError, Ino, Secs};
+use dm_parts::{
+    Answer, Component, Daemon, Ending, Mark, OpenRequest, Opening, Payload, Prepared, RequestKind,
+};
 use dm_state::{DaemonRecord, DaemonStep};
 
 // The first error whose test is true.
@@ -141,25 +141,23 @@ pub(crate) fn changed(begun: &OpenRequest) -> Option<DaemonError>
     }
 }
 
-impl Daemon {
-    // A step journalled by a command that read the clock so.
-    pub(crate) fn journalled(&self, now: Secs, step: DaemonStep) -> Option<Payload>
-        ensures { result ≡ journalled_by self.now now.0 step }
-    {
-        let time = self.time_at(now);
-        let record = DaemonRecord { time, step };
-        Some(Payload::Daemon { record })
-    }
+// A step journalled by a command that read the clock so.
+pub(crate) fn journalled(daemon: &Daemon, now: Secs, step: DaemonStep) -> Option<Payload>
+    ensures { result ≡ journalled_by daemon.now now.0 step }
+{
+    let time = time_at(daemon, now);
+    let record = DaemonRecord { time, step };
+    Some(Payload::Daemon { record })
+}
 
-    // The time after a step whose command read the clock so.
-    pub(crate) fn time_at(&self, now: Secs) -> Secs
-        ensures { result.0 ≡ time_at self.now now.0 }
-    {
-        if self.tables.time.0 < now.0 {
-            now
-        } else {
-            self.tables.time
-        }
+// The time after a step whose command read the clock so.
+fn time_at(daemon: &Daemon, now: Secs) -> Secs
+    ensures { result.0 ≡ time_at_of daemon.now now.0 }
+{
+    if daemon.tables.time.0 < now.0 {
+        now
+    } else {
+        daemon.tables.time
     }
 }
 

@@ -3,22 +3,24 @@
 ghost use Rattle.std.specs.Prelude.{◌≡◌, ◌&&◌, cond, IfOk};
 ghost use Rattle.std.specs.FinMap as finmap;
 ghost use Rattle.std.specs.Option.{option_copied, option_map};
-ghost use Rattle.dm_machine.specs.Tests.{first_true};
-ghost use Rattle.dm_machine.specs.Files.{numbered};
-ghost use Rattle.dm_machine.specs.Plan.{prepared};
+ghost use Rattle.dm_parts.specs.Tests.{first_true};
+ghost use Rattle.dm_parts.specs.Files.{numbered};
+ghost use Rattle.dm_parts.specs.Plan.{prepared};
 ghost use Rattle.dm_base.specs.declared.request.PutEnd.TheVariants as end;
 ghost use Rattle.dm_machine.specs.DaemonCalls.{put_refusals, entry_asks, first_filled, is_whole as is_whole_of, differ as differ_of, are_configured as are_configured_of, is_filled as is_filled_of, is_reserved as is_reserved_of, has_committed as has_committed_of, end_put as end_put_plan, refused, begin_put as begin_put_plan, copy_stored as copy_stored_plan, release as release_plan};
 
-use crate::answer::Answer;
 use crate::files;
-use crate::guards::lowest;
 use crate::limits::{ENTRIES_LIMIT, LAST_NUMBER};
-use crate::plan::{Ending, Opening, Prepared};
 use crate::prepared::{
-    changed, first_error, no_file, no_request, opening_with, refusing, request_of, stepping,
+    changed, first_error, journalled, no_file, no_request, opening_with, refusing, request_of,
+    stepping,
 };
-use crate::state::{Daemon, Joint, OpenRequest, RequestKind, Side};
+use crate::state::Joint;
 use dm_base::{Bfid, DaemonError, GroupId, NoMemory, Path, PutEnd, Secs};
+use dm_parts::{
+    Answer, Daemon, Ending, OpenRequest, Opening, Prepared, RequestKind, Side, is_put, is_regular,
+    lowest,
+};
 use dm_state::{DaemonStep, Entry, Inode};
 use dm_tables::Test;
 use std::alloc::Global;
@@ -42,7 +44,7 @@ impl Joint {
             let error = DaemonError::NoFile;
             return Ok(refusing(illegal, Ending::Nothing, error));
         };
-        if let Some(error) = self.daemon.put_refusal(ino, inode) {
+        if let Some(error) = put_refusal(&self.daemon, ino, inode) {
             return Ok(refusing(illegal, Ending::Nothing, error));
         }
         let bfid = Bfid::of(self.daemon.tables.site, self.daemon.tables.counter);
@@ -68,7 +70,7 @@ impl Joint {
         Ok(opening_with(
             all,
             illegal,
-            self.daemon.journalled(now, step),
+            journalled(&self.daemon, now, step),
             opens,
             answer,
         ))
@@ -86,7 +88,7 @@ impl Joint {
             return no_request();
         };
         let illegal = lowest(&[
-            (files::is_put(begun.kind), 5),
+            (is_put(begun.kind), 5),
             (
                 awaits(self.daemon.tables.entries.get(begun.bfid.0), group),
                 5,
@@ -103,7 +105,7 @@ impl Joint {
         stepping(
             illegal,
             Ending::Nothing,
-            self.daemon.journalled(now, step),
+            journalled(&self.daemon, now, step),
             Answer::CopyStored,
         )
     }
@@ -127,10 +129,7 @@ impl Joint {
             bfid: begun.bfid,
             groups: files::asked_by(alloc, entry)?,
         };
-        let illegal = lowest(&[
-            (files::is_put(begun.kind), 6),
-            (!self.is_reserved(begun.bfid), 6),
-        ]);
+        let illegal = lowest(&[(is_put(begun.kind), 6), (!self.is_reserved(begun.bfid), 6)]);
         if let Some(error) = changed(&begun) {
             return Ok(refusing(illegal, ends, error));
         }
@@ -142,7 +141,7 @@ impl Joint {
         Ok(stepping(
             illegal,
             ends,
-            self.daemon.journalled(now, step),
+            journalled(&self.daemon, now, step),
             Answer::PutEnded { end: end_of(dual) },
         ))
     }
@@ -173,7 +172,7 @@ impl Joint {
         Ok(stepping(
             None,
             Ending::Nothing,
-            self.daemon.journalled(now, step),
+            journalled(&self.daemon, now, step),
             Answer::Released,
         ))
     }
@@ -212,30 +211,25 @@ impl Joint {
     }
 }
 
-impl Daemon {
-    // Why no put of the file with this inode may begin.
-    fn put_refusal(&self, ino: u64, inode: &Inode) -> Option<DaemonError>
-        ensures { option_map refused result ≡ first_true (put_refusals self.now (numbered ino inode.now)) }
-    {
-        let state = self.state(ino, inode);
-        let tests = [
-            (
-                !files::is_regular(state),
-                DaemonError::WrongState { found: state },
-            ),
-            (
-                ENTRIES_LIMIT <= self.tables.entries.len() as u64,
-                DaemonError::TooMany {
-                    limit: ENTRIES_LIMIT,
-                },
-            ),
-            (
-                LAST_NUMBER < self.tables.counter,
-                DaemonError::TooMany { limit: LAST_NUMBER },
-            ),
-        ];
-        first_error(&tests)
-    }
+// Why no put of the file with this inode may begin.
+fn put_refusal(daemon: &Daemon, ino: u64, inode: &Inode) -> Option<DaemonError>
+    ensures { option_map refused result ≡ first_true (put_refusals daemon.now (numbered ino inode.now)) }
+{
+    let state = daemon.state(ino, inode);
+    let tests = [
+        (!is_regular(state), DaemonError::WrongState { found: state }),
+        (
+            ENTRIES_LIMIT <= daemon.tables.entries.len() as u64,
+            DaemonError::TooMany {
+                limit: ENTRIES_LIMIT,
+            },
+        ),
+        (
+            LAST_NUMBER < daemon.tables.counter,
+            DaemonError::TooMany { limit: LAST_NUMBER },
+        ),
+    ];
+    first_error(&tests)
 }
 
 // The reservation of a copy of the bitfile.

@@ -4,21 +4,23 @@ ghost use Rattle.std.specs.Prelude.{◌≡◌, ◌+◌, is_some, true, false, le
 ghost use Rattle.std.specs.List.{list_any};
 ghost use Rattle.std.specs.FinMap as finmap;
 ghost use Rattle.std.specs.Option.{option_copied, option_map};
-ghost use Rattle.dm_machine.specs.Files.{numbered};
-ghost use Rattle.dm_machine.specs.Plan.{prepared};
-ghost use Rattle.dm_machine.specs.Effects.{reads_or};
-ghost use Rattle.dm_machine.specs.Volumes.{same_text};
+ghost use Rattle.dm_parts.specs.Files.{numbered};
+ghost use Rattle.dm_parts.specs.Plan.{prepared};
+ghost use Rattle.dm_changes.specs.Changes.{reads_or};
+ghost use Rattle.dm_parts.specs.Volumes.{same_text};
 ghost use Rattle.dm_machine.specs.DaemonCalls.{contents_at, taken_bytes as taken_bytes_of, taken_step as taken_step_of, recall_begun as recall_begun_plan, end_recall as end_recall_plan, drop_recall as drop_recall_plan, joins as joins_of, was_read as was_read_of, recall_of as recall_of_worker, begin_recall as begin_recall_plan};
 
-use crate::answer::Answer;
 use crate::files;
-use crate::guards::lowest;
-use crate::plan::{Ending, Opening, Payload, Prepared};
 use crate::prepared::{
-    answered, changed, no_file, no_request, opening_with, refusing, request_of, stepping,
+    answered, changed, journalled, no_file, no_request, opening_with, refusing, request_of,
+    stepping,
 };
-use crate::state::{Daemon, Joint, OpenRequest, Recall, RequestKind};
+use crate::state::Joint;
 use dm_base::{Bfid, Bytes, GroupId, Ino, NoMemory, Secs};
+use dm_parts::{
+    Answer, Daemon, Ending, OpenRequest, Opening, Payload, Prepared, Recall, RequestKind,
+    is_recall, lowest,
+};
 use dm_state::{Contents, DaemonStep, Inode};
 use dm_tables::Numbers;
 use std::alloc::Global;
@@ -100,7 +102,7 @@ impl Joint {
         };
         let recall = self.recall_of(worker, number);
         let illegal = lowest(&[
-            (files::is_recall(begun.kind), 7),
+            (is_recall(begun.kind), 7),
             (is_there(recall), 7),
             (was_read(recall, bytes.as_slice()), 7),
         ]);
@@ -111,8 +113,8 @@ impl Joint {
         if let Some(error) = changed(&begun) {
             return Ok(refusing(illegal, ends, error));
         }
-        let step = self.daemon.taken_step(alloc, now, begun.ino, bytes)?;
-        let bytes = self.daemon.taken_bytes(alloc, begun.ino, bytes)?;
+        let step = taken_step(alloc, &self.daemon, now, begun.ino, bytes)?;
+        let bytes = taken_bytes(alloc, &self.daemon, begun.ino, bytes)?;
         Ok(stepping(illegal, ends, step, Answer::Recalled { bytes }))
     }
 
@@ -128,7 +130,7 @@ impl Joint {
             return no_request();
         };
         let illegal = lowest(&[
-            (files::is_recall(begun.kind), 7),
+            (is_recall(begun.kind), 7),
             (is_there(self.recall_of(worker, number)), 7),
         ]);
         let ends = Ending::Recall {
@@ -150,51 +152,54 @@ impl Joint {
     }
 }
 
-impl Daemon {
-    // What the recall of the inode with this number gives: the bytes that it has, or those that were recalled.
-    fn taken_bytes(&self, alloc: Global, ino: Ino, recalled: &Bytes) -> Result<Bytes, NoMemory>
-        ensures { IfOk result (λ bytes. bytes ≡ taken_bytes_of recalled.now (contents_at self.now.tables.inodes ino.0)) }
-    {
-        match self.tables.inodes.get(u128::from(ino.0)) {
-            None => Ok(Bytes::from_vec(Vec::new(alloc))),
-            Some(inode) => taken(alloc, &inode.contents, recalled),
-        }
+// What the recall of the inode with this number gives: the bytes that it has, or those that were recalled.
+fn taken_bytes(
+    alloc: Global,
+    daemon: &Daemon,
+    ino: Ino,
+    recalled: &Bytes,
+) -> Result<Bytes, NoMemory>
+    ensures { IfOk result (λ bytes. bytes ≡ taken_bytes_of recalled.now (contents_at daemon.now.tables.inodes ino.0)) }
+{
+    match daemon.tables.inodes.get(u128::from(ino.0)) {
+        None => Ok(Bytes::from_vec(Vec::new(alloc))),
+        Some(inode) => taken(alloc, &inode.contents, recalled),
     }
+}
 
-    // What it journals.
-    fn taken_step(
-        &self,
-        alloc: Global,
-        now: Secs,
-        ino: Ino,
-        recalled: &Bytes,
-    ) -> Result<Option<Payload>, NoMemory>
-        ensures { IfOk result (λ step. step ≡ taken_step_of self.now now.0 ino.0 recalled.now (contents_at self.now.tables.inodes ino.0)) }
-    {
-        match self.tables.inodes.get(u128::from(ino.0)) {
-            None => Ok(None),
-            Some(inode) => self.taken_from(alloc, now, ino, &inode.contents, recalled),
-        }
+// What it journals.
+fn taken_step(
+    alloc: Global,
+    daemon: &Daemon,
+    now: Secs,
+    ino: Ino,
+    recalled: &Bytes,
+) -> Result<Option<Payload>, NoMemory>
+    ensures { IfOk result (λ step. step ≡ taken_step_of daemon.now now.0 ino.0 recalled.now (contents_at daemon.now.tables.inodes ino.0)) }
+{
+    match daemon.tables.inodes.get(u128::from(ino.0)) {
+        None => Ok(None),
+        Some(inode) => taken_from(alloc, daemon, now, ino, &inode.contents, recalled),
     }
+}
 
-    fn taken_from(
-        &self,
-        alloc: Global,
-        now: Secs,
-        ino: Ino,
-        contents: &Contents,
-        recalled: &Bytes,
-    ) -> Result<Option<Payload>, NoMemory>
-        ensures { IfOk result (λ step. step ≡ taken_step_of self.now now.0 ino.0 recalled.now contents.now) }
-    {
-        match contents {
-            Contents::Regular { bytes: _ }
-            | Contents::Making { bytes: _, bfid: _ }
-            | Contents::Dual { bytes: _, bfid: _ } => Ok(None),
-            Contents::Offline { len: _, bfid: _ } => {
-                let bytes = recalled.copied(alloc)?;
-                Ok(self.journalled(now, DaemonStep::Taken { ino, bytes }))
-            }
+fn taken_from(
+    alloc: Global,
+    daemon: &Daemon,
+    now: Secs,
+    ino: Ino,
+    contents: &Contents,
+    recalled: &Bytes,
+) -> Result<Option<Payload>, NoMemory>
+    ensures { IfOk result (λ step. step ≡ taken_step_of daemon.now now.0 ino.0 recalled.now contents.now) }
+{
+    match contents {
+        Contents::Regular { bytes: _ }
+        | Contents::Making { bytes: _, bfid: _ }
+        | Contents::Dual { bytes: _, bfid: _ } => Ok(None),
+        Contents::Offline { len: _, bfid: _ } => {
+            let bytes = recalled.copied(alloc)?;
+            Ok(journalled(daemon, now, DaemonStep::Taken { ino, bytes }))
         }
     }
 }

@@ -1,16 +1,15 @@
 //! One event of the joint machine.
 
 ghost use Rattle.std.specs.Prelude.{◌≡◌, ℕ, Bool, ◌&&◌, Some, IfOk, IsErrOf, OnErr};
-ghost use Rattle.dm_machine.specs.Plan.{prepared};
+ghost use Rattle.dm_parts.specs.Plan.{prepared};
 ghost use Rattle.dm_machine.specs.Step.{after as after_of, failed as failed_of, landed_doubt, landed_of, plan, step as step_of};
 ghost use Rattle.dm_machine.specs.Step.Outcome.{Illegal, Stepped};
-ghost use Rattle.dm_machine.specs.declared.call.Event.TheVariants as event;
+ghost use Rattle.dm_parts.specs.declared.call.Event.TheVariants as event;
 
-use crate::answer::Answer;
-use crate::call::{Call, Component, Event};
-use crate::plan::{Payload, Prepared};
 use crate::state::Joint;
 use dm_base::{GroupId, NoMemory};
+use dm_parts::{Answer, Call, Component, Event, Payload, Prepared};
+use dm_plans::{prepare_group, prepare_volume};
 use dm_tables::Copied;
 use std::alloc::Global;
 
@@ -59,9 +58,14 @@ impl Joint {
     {
         match call {
             Call::Daemon { call } => self.prepare_daemon(alloc, worker, call),
-            Call::Group { group, call } => self.prepare_group(alloc, worker, *group, call),
+            Call::Group { group, call } => {
+                let side = self.sides.get(u128::from(group.0));
+                let state = self.workers.get(u128::from(worker));
+                prepare_group(alloc, &self.daemon.contents, state, *group, side, call)
+            }
             Call::Volume { group, vsn, call } => {
-                self.prepare_volume(alloc, worker, *group, *vsn, call)
+                let side = self.sides.get(u128::from(group.0));
+                prepare_volume(alloc, worker, *group, *vsn, side, call)
             }
         }
     }

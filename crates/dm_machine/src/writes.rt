@@ -3,17 +3,16 @@
 ghost use Rattle.std.specs.Prelude.{◌≡◌, ◌+◌, ◌-◌, not, is_some, nat_lt, ◌^◌, ◌<◌, ◌≤◌, length, drop, IfOk};
 ghost use Rattle.std.specs.Option.{option_map};
 ghost use Rattle.dm_rules.specs.Numbers.{narrowed as narrowed_of};
-ghost use Rattle.dm_machine.specs.Files.{numbered, length_at as length_at_of};
-ghost use Rattle.dm_machine.specs.Plan.{prepared};
+ghost use Rattle.dm_parts.specs.Files.{numbered, length_at as length_at_of};
+ghost use Rattle.dm_parts.specs.Plan.{prepared};
 ghost use Rattle.dm_machine.specs.DaemonCalls.{patch as patch_plan, patch_of as patch_of_plan, patched as patched_of, too_full as too_full_test, write as write_plan, changes_used as changes_used_test, refused, remove as remove_plan};
 
-use crate::answer::Answer;
 use crate::files;
 use crate::limits::{FILE_LIMIT, FILES_LIMIT, LAST_NUMBER};
-use crate::plan::{Ending, Prepared};
-use crate::prepared::{first_error, no_file, refusing, stepping};
-use crate::state::{Daemon, Joint};
+use crate::prepared::{first_error, journalled, no_file, refusing, stepping};
+use crate::state::Joint;
 use dm_base::{Bytes, DaemonError, NoMemory, Path, Secs};
+use dm_parts::{Answer, Daemon, Ending, Prepared};
 use dm_state::{DaemonStep, Inode};
 use std::alloc::Global;
 
@@ -37,13 +36,13 @@ impl Joint {
                 is_missing(file) && FILES_LIMIT <= self.daemon.tables.names.len() as u64,
                 DaemonError::TooMany { limit: FILES_LIMIT },
             ),
-            self.daemon.changes_used(),
-            self.daemon.too_full(file, bytes.len() as u128),
+            changes_used(&self.daemon),
+            too_full(&self.daemon, file, bytes.len() as u128),
         ];
         if let Some(error) = first_error(&tests) {
             return Ok(refusing(None, Ending::Nothing, error));
         }
-        let change = self.daemon.next_change();
+        let change = next_change(&self.daemon);
         let step = DaemonStep::Write {
             path: path.copied(alloc)?,
             change,
@@ -52,7 +51,7 @@ impl Joint {
         Ok(stepping(
             None,
             Ending::Nothing,
-            self.daemon.journalled(now, step),
+            journalled(&self.daemon, now, step),
             Answer::Changed { change },
         ))
     }
@@ -102,8 +101,9 @@ impl Joint {
                 files::is_away(state),
                 DaemonError::WrongState { found: state },
             ),
-            self.daemon.changes_used(),
-            self.daemon.too_full(
+            changes_used(&self.daemon),
+            too_full(
+                &self.daemon,
                 Some((ino, inode)),
                 patched_len(offset, bytes.as_slice(), old),
             ),
@@ -111,7 +111,7 @@ impl Joint {
         if let Some(error) = first_error(&tests) {
             return Ok(refusing(None, Ending::Nothing, error));
         }
-        let change = self.daemon.next_change();
+        let change = next_change(&self.daemon);
         let step = DaemonStep::Write {
             path: path.copied(alloc)?,
             change,
@@ -120,7 +120,7 @@ impl Joint {
         Ok(stepping(
             None,
             Ending::Nothing,
-            self.daemon.journalled(now, step),
+            journalled(&self.daemon, now, step),
             Answer::Changed { change },
         ))
     }
@@ -137,11 +137,11 @@ impl Joint {
         if file.is_none() {
             return Ok(no_file());
         }
-        let tests = [self.daemon.changes_used()];
+        let tests = [changes_used(&self.daemon)];
         if let Some(error) = first_error(&tests) {
             return Ok(refusing(None, Ending::Nothing, error));
         }
-        let change = self.daemon.next_change();
+        let change = next_change(&self.daemon);
         let step = DaemonStep::Remove {
             path: path.copied(alloc)?,
             change,
@@ -149,40 +149,41 @@ impl Joint {
         Ok(stepping(
             None,
             Ending::Nothing,
-            self.daemon.journalled(now, step),
+            journalled(&self.daemon, now, step),
             Answer::Changed { change },
         ))
     }
 }
 
-impl Daemon {
-    fn changes_used(&self) -> (bool, DaemonError)
-        ensures { (result.0, refused result.1) ≡ changes_used_test self.now }
-    {
-        let limit = LAST_NUMBER;
-        (limit <= self.tables.change, DaemonError::TooMany { limit })
-    }
+fn changes_used(daemon: &Daemon) -> (bool, DaemonError)
+    ensures { (result.0, refused result.1) ≡ changes_used_test daemon.now }
+{
+    let limit = LAST_NUMBER;
+    (
+        limit <= daemon.tables.change,
+        DaemonError::TooMany { limit },
+    )
+}
 
-    // The number of the next change.
-    fn next_change(&self) -> u64
-        requires { self.now.tables.change < 2 ^ 63 }
-        ensures { result ≡ self.now.tables.change + 1 }
-    {
-        self.tables.change + 1
-    }
+// The number of the next change.
+fn next_change(daemon: &Daemon) -> u64
+    requires { daemon.now.tables.change < 2 ^ 63 }
+    ensures { result ≡ daemon.now.tables.change + 1 }
+{
+    daemon.tables.change + 1
+}
 
-    // The files would have more bytes than the cap with this one of `need` bytes, whose present bytes don't count.
-    fn too_full(&self, file: Option<(u64, &Inode)>, need: u128) -> (bool, DaemonError)
-        ensures { (result.0, refused result.1) ≡ too_full_test self.now (option_map (λ f. numbered f.0 f.1.now) file.entry) need }
-    {
-        let have = less(self.size(), u128::from(length_at(file)));
-        let error = DaemonError::Full {
-            have: narrowed(have),
-            need: narrowed(need),
-            cap: self.cap,
-        };
-        (passes(have, need, u128::from(self.cap)), error)
-    }
+// The files would have more bytes than the cap with this one of `need` bytes, whose present bytes don't count.
+fn too_full(daemon: &Daemon, file: Option<(u64, &Inode)>, need: u128) -> (bool, DaemonError)
+    ensures { (result.0, refused result.1) ≡ too_full_test daemon.now (option_map (λ f. numbered f.0 f.1.now) file.entry) need }
+{
+    let have = less(daemon.size(), u128::from(length_at(file)));
+    let error = DaemonError::Full {
+        have: narrowed(have),
+        need: narrowed(need),
+        cap: daemon.cap,
+    };
+    (passes(have, need, u128::from(daemon.cap)), error)
 }
 
 // The length of a file, if it is there.

@@ -1,0 +1,18 @@
+use Rattle.std.proofs.Common.{◌≡◌, ℕ, ◌+◌, ap, ◌∙◌, arith}
+use Rattle.std.specs.FinMap as map
+use Rattle.dm_rules.specs.Known.{forgotten}
+use Rattle.dm_changes.proofs.Places.{forgotten_begin, forgotten_on}
+use Rattle.dm_changes.proofs.marks.without_range.Goals as goal
+
+pub loop-offset-init : goal.loop-offset-init
+loop-offset-init c = forgotten_begin c.args.place c.args.known
+
+pub loop-offset-preserved : goal.loop-offset-preserved
+loop-offset-preserved c =
+    forgotten_on c.args.place c.loop-offset.offset c.args.known c.loop-offset.known c.remove.new.self c.loop-offset.invariant
+    (c.remove.ensures.removed ∙ ap (λ (p : ℕ). map.remove c.loop-offset.known (p + c.loop-offset.offset)) c.from.ensures)
+
+pub returns : goal.returns
+returns c =
+    let whole : c.loop-offset.offset ≡ c.args.count = omega arith in
+    c.loop-offset.invariant ∙ ap (λ (n : ℕ). forgotten c.args.place n c.args.known) whole

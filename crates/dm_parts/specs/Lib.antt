@@ -1,0 +1,5 @@
+pub mod Tests
+pub mod Plan
+pub mod Files
+pub mod Laid
+pub mod Volumes
