@@ -1,5 +1,5 @@
 -- The joint state before the first event is opened: there are states that the laws speak of.
-use Rattle.std.proofs.Common.{◌≡◌, ◌≤◌, ℕ, List, [], ◌∷◌, refl, sym, subst, inl, inr, arith}
+use Rattle.std.proofs.Common.{◌≡◌, ◌≤◌, ℕ, List, [], ◌∷◌, option_map, refl, sym, ap, subst, inl, inr, arith, ◌∙◌}
 use Rattle.std.specs.Ordering.{nat_cmp}
 use Rattle.std.specs.FinMap as map
 use Rattle.dm_base.specs.declared.conf.DaemonConf.{DaemonConf}
@@ -14,6 +14,8 @@ use Rattle.dm_machine.specs.Begin.{new_daemon, new_group, new_side, new_sides, e
 use Rattle.dm_parts.specs.Files.{size_of}
 use Rattle.dm_parts.specs.declared.state.Daemon.{Daemon}
 use Rattle.dm_parts.specs.declared.state.Mounted.{Mounted}
+use Rattle.dm_parts.specs.declared.state.MountState.{MountState}
+use Rattle.dm_laws.specs.Rows.{mounted}
 use Rattle.dm_laws.specs.Among.{Among}
 use Rattle.dm_laws.specs.Opened.{ConfFits, VolumeFits, Fits, SideOpened, Opened}
 use Rattle.dm_laws.specs.Sound.{Owner, Live, Kept, Doubted, Has, GroupSound, DaemonSound, Sound}
@@ -41,6 +43,9 @@ nobody c (Doubted offset) vsn place has = has.among
 few : (drives : ℕ) → map.len (map.empty {X = Mounted} {R = nat_cmp}) ≤ drives
 few drives = let none = map.len-empty nat_cmp Mounted in omega arith
 
+nothing_mounted : (m : ℕ) → map.get (map.empty {X = Mounted} {R = nat_cmp}) m ≡ option_map mounted (map.get (map.empty {X = MountState} {R = nat_cmp}) m)
+nothing_mounted m = map.get-empty {X = Mounted} nat_cmp m ∙ sym (ap (option_map mounted) (map.get-empty {X = MountState} nat_cmp m))
+
 group_new : (d : Daemon) (g : ℕ) (c : GroupConf) → GroupSound d g (new_side c)
 group_new d g c = record {
   asked = each-empty _ _;
@@ -55,6 +60,8 @@ group_new d g c = record {
   epochs = each-empty _ _;
   mounts = λ m n x y is other same. absurd (none_in_empty _ _ m x refl is);
   drives = few c.drives;
+  mounted_same = nothing_mounted;
+  committed = each-empty _ _;
   doubt = tt;
 }
 
@@ -81,6 +88,7 @@ daemon_new conf groups = record {
   gone = each-empty _ _;
   numbers = each-empty _ _;
   identifiers = each-empty _ _;
+  contents = each-empty _ _;
   doubt = tt;
 }
 
@@ -89,6 +97,7 @@ empty_sound conf groups = record {
   daemon = daemon_new conf groups;
   groups = λ g s is. let r = sides_new groups g s is in subst (λ x. GroupSound (new_daemon conf) g x) (sym r.2) (group_new (new_daemon conf) g r.0);
   copies = each-empty _ _;
+  stored = each-empty _ _;
 }
 
 -- where there are no files, there are no bytes
@@ -116,5 +125,4 @@ empty_opened conf groups first = record {
   workers = refl;
   inodes = each-empty _ _;
   sides = λ g s is. let r = sides_new groups g s is in subst (λ x. SideOpened x) (sym r.2) (side_new r.0);
-  contents = each-empty _ _;
 }

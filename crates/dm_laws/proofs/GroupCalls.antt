@@ -22,7 +22,7 @@ use Rattle.dm_parts.specs.Volumes.{free_slot}
 use Rattle.dm_laws.proofs.DoubtsKept.{GroupMayLand}
 use Rattle.dm_laws.proofs.Fits.{CallFits, AnsweredFits}
 use Rattle.dm_laws.proofs.Kept.{Kept, SideKept}
-use Rattle.dm_laws.proofs.MountsKept.{mounted}
+use Rattle.dm_laws.specs.Rows.{mounted}
 use Rattle.dm_laws.proofs.VolumesKept.{IsOfConf}
 use Rattle.dm_laws.proofs.GroupMounts.{OriginAt}
 use Rattle.dm_laws.proofs.GroupMountCalls.{mount_new_fits, mount_new_answered, mount_piece_fits}

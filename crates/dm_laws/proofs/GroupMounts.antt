@@ -15,7 +15,8 @@ use Rattle.dm_plans.specs.GroupCalls.{is_none}
 use Rattle.dm_parts.specs.Tests.{NoneHold}
 use Rattle.dm_parts.specs.Volumes.{same_text, epoch_or, is_mounted, mount_refusals}
 use Rattle.dm_laws.proofs.Fits.{OriginOpens, MountOpens}
-use Rattle.dm_laws.proofs.MountsKept.{mounted, OriginKept, MountsKept}
+use Rattle.dm_laws.specs.Rows.{mounted}
+use Rattle.dm_laws.proofs.MountsKept.{OriginKept, MountsKept}
 use Rattle.dm_laws.proofs.Options.{none_of, none_mapped}
 use Rattle.dm_laws.proofs.Texts.{same_texts}
 

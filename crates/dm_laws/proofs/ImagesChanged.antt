@@ -34,7 +34,8 @@ use Rattle.dm_laws.specs.Among.{Among}
 use Rattle.dm_laws.specs.Assemble.{known_of, known_on}
 use Rattle.dm_laws.specs.Rows.{ChunkCovers, ChunkKnown}
 use Rattle.dm_laws.proofs.CatalogueKept.{BitfileKept}
-use Rattle.dm_laws.proofs.MountsKept.{mounted, OriginKept, MountsKept}
+use Rattle.dm_laws.specs.Rows.{mounted}
+use Rattle.dm_laws.proofs.MountsKept.{OriginKept, MountsKept}
 use Rattle.dm_laws.proofs.ReservationsKept.{WrittenKept, ReservationKept}
 use Rattle.dm_laws.proofs.DoubtsKept.{GroupStepNeeds, GroupMayLandIf}
 use Rattle.dm_laws.proofs.Kept.{SideKept}

@@ -1,5 +1,9 @@
 -- A state that keeps the invariant is sound, part by part.
-use Rattle.std.proofs.Common.{◌≡◌, ℕ, Option, None, Some, List, option_map, refl, sym, ap, subst, ◌∙◌}
+use Rattle.std.proofs.Common.{◌≡◌, ◌&&◌, ℕ, true, false, nat_eq, Option, None, Some, List, option_map, refl, sym, ap, subst, ◌∙◌}
+use Rattle.std.proofs.lemmas.Bool.{and_parts, eqb-true}
+use Rattle.dm_base.specs.declared.identifier.GroupId.{GroupId}
+use Rattle.dm_state.specs.Entries.{has_stored}
+use Rattle.dm_parts.specs.Files.{asked_by}
 use Rattle.std.specs.FinMap.{get}
 use Rattle.dm_base.specs.declared.identifier.Secs.{Secs}
 use Rattle.dm_state.specs.Tables.{Numbered}
@@ -16,11 +20,14 @@ use Rattle.dm_parts.specs.declared.state.Mounted.{Mounted}
 use Rattle.dm_parts.specs.declared.state.MountState.{MountState}
 use Rattle.dm_parts.specs.declared.state.Side.{Side}
 use Rattle.dm_laws.specs.Sound.{CopySound, Owner, Live, Kept as InHand, Doubted, HasLive, HasKept, HasDoubted, Has, DoubtRight, GroupDoubtSound}
-use Rattle.dm_laws.specs.Sound.{GroupSound, StepRight, DaemonDoubtSound, DaemonSound, Sound}
+use Rattle.dm_laws.specs.Sound.{InGroup, GroupSound, StepRight, DaemonDoubtSound, DaemonSound, Sound}
 use Rattle.dm_parts.specs.Volumes.{epoch_or}
-use Rattle.dm_laws.proofs.MountsKept.{mounted}
+use Rattle.dm_laws.specs.Rows.{mounted}
 use Rattle.dm_laws.proofs.PlacesKept.{PlacesKept}
 use Rattle.dm_laws.proofs.DoubtsKept.{StepNeeds, MayLandIf, GroupStepNeeds, GroupMayLandIf}
+use Rattle.dm_laws.proofs.AskedGroups.{NumberAmong}
+use Rattle.dm_laws.proofs.Lists.{among_mapped, passing}
+use Rattle.dm_laws.proofs.Options.{value_of}
 use Rattle.dm_laws.proofs.Kept.{SideKept, Kept}
 use Rattle.dm_laws.proofs.Assembled.{copy_of_entry}
 use Rattle.std.proofs.lemmas.Option.{same_Some}
@@ -52,6 +59,7 @@ daemon_sound j k = record {
   gone = k.files.gone;
   numbers = k.files.numbers;
   identifiers = k.files.entries_made;
+  contents = k.files.contents_made;
   doubt = doubt_sound j j.daemon.doubt k.doubt;
 }
 
@@ -147,6 +155,8 @@ group_sound d g s k = record {
       let w = mount_of s.mounts s.group.mounts n y (k.mounts.same n) is_other in
       k.mounts.apart m n v.0 w.0 v.1 w.1 (ap (λ z. z.vsn.0) v.2 ∙ same ∙ sym (ap (λ z. z.vsn.0) w.2));
   drives = k.mounts.drives;
+  mounted_same = k.mounts.same;
+  committed = k.catalogue.commits_made;
   doubt = group_doubt_sound d g s s.group.doubt k.doubt;
 }
 
@@ -155,12 +165,23 @@ group_sound d g s k = record {
 copy_sound : (d : Daemon) (g : ℕ) (s : Side) (b : ℕ) (e : Entry)
     → SideKept d.tables.entries d.contents d.requests g s → get d.tables.entries b ≡ Some e
     → CopySound d.contents g s b e
-copy_sound d g s b e k is = record {
-  right = λ asked there.
-      let c = copy_of_entry g d.tables.entries d.contents d.requests s b e k is there in
-      record { bytes = c.0; copy = c.1; content = c.2; len = c.3 };
-  there = λ lasting stored. k.catalogue.stored b e is lasting stored;
-}
+copy_sound d g s b e k is = λ asked there.
+    let c = copy_of_entry g d.tables.entries d.contents d.requests s b e k is there in
+    record { bytes = c.0; copy = c.1; content = c.2; len = c.3 }
+
+-- a group that stored a copy was asked for it, and so is configured
+stored_asked : (g : ℕ) (e : Entry) → has_stored e g ≡ true → NumberAmong g (asked_by (Some e))
+stored_asked g e had =
+    let c = passing (λ c. nat_eq c.group.0 g && c.stored) e.copies had in
+    record { group = c.0.group; among = among_mapped (λ c. c.group) c.0 e.copies c.1; same = eqb-true c.0.group.0 g (and_parts (nat_eq c.0.group.0 g) c.0.stored c.2).0 }
+
+stored_there : (j : Joint) → Kept j → (b : ℕ) (e : Entry) → get j.daemon.tables.entries b ≡ Some e → e.dropping ≡ false → (g : ℕ)
+    → has_stored e g ≡ true → InGroup j.sides g b
+stored_there j k b e is lasting g had =
+    let asked = stored_asked g e had in
+    let side = value_of (get j.sides asked.group.0) (k.configured b e is asked.group asked.among) in
+    let at : get j.sides g ≡ Some side.0 = ap (get j.sides) (sym asked.same) ∙ side.1 in
+    record { side = side.0; is = at; there = (k.sides g side.0 at).catalogue.stored b e is lasting had }
 
 -- ---- the state
 
@@ -170,4 +191,5 @@ kept_sound j k = record {
   daemon = daemon_sound j k;
   groups = λ g s is. group_sound j.daemon g s (k.sides g s is);
   copies = λ b e is g s there. copy_sound j.daemon g s b e (k.sides g s there) is;
+  stored = λ b e is lasting g had. stored_there j k b e is lasting g had;
 }

@@ -19,7 +19,7 @@ use Rattle.dm_parts.specs.declared.state.MountState.{MountState}
 use Rattle.dm_parts.specs.declared.state.OpenRequest.{OpenRequest}
 use Rattle.dm_parts.specs.declared.state.Side.{Side}
 use Rattle.dm_changes.specs.Changes.{image_by, mount_labelled}
-use Rattle.dm_laws.proofs.MountsKept.{mounted}
+use Rattle.dm_laws.specs.Rows.{mounted}
 use Rattle.dm_laws.proofs.DoubtsKept.{GroupMayLandIf}
 use Rattle.dm_laws.proofs.Kept.{SideKept}
 use Rattle.dm_laws.proofs.ImagesChanged.{KnownBeside, image_written, image_forgotten, Spares, SparesStep, SparesIf, AllWritten, all_written}

@@ -24,7 +24,8 @@ use Rattle.dm_parts.specs.declared.state.Origin.TheVariants as origin
 use Rattle.dm_parts.specs.declared.state.Reserved.{Reserved}
 use Rattle.dm_parts.specs.declared.state.Side.{Side}
 use Rattle.dm_changes.specs.Changes.{copy_by, reservation_by, unmounted_from, work_unmounted, work_mounted, mount_closed, mount_opened}
-use Rattle.dm_laws.proofs.MountsKept.{mounted, OriginKept}
+use Rattle.dm_laws.specs.Rows.{mounted}
+use Rattle.dm_laws.proofs.MountsKept.{OriginKept}
 use Rattle.dm_laws.proofs.ReservationsKept.{ReservationsKept}
 use Rattle.dm_laws.proofs.Doubts.{same_ground, doubt_stays}
 use Rattle.dm_laws.proofs.Fits.{MountOpens, OriginOpens}

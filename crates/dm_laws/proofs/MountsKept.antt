@@ -19,11 +19,8 @@ use Rattle.dm_parts.specs.declared.state.Reserved.{Reserved}
 use Rattle.dm_parts.specs.Volumes.{epoch_or}
 use Rattle.dm_plans.specs.GroupCalls.{piece_at}
 use Rattle.dm_laws.specs.Among.{Among}
+use Rattle.dm_laws.specs.Rows.{mounted}
 use Rattle.dm_laws.proofs.VolumesKept.{IsOfConf}
-
--- what the group has of a mount
-abbrev pub mounted : MountState → Mounted
-mounted x = record { vsn = x.vsn; epoch = x.epoch }
 
 -- the mount of a piece is one of the copy's reservation, which has that piece on that volume
 pub record PieceMount (reservations : Numbered Reserved) (copies : Numbered CopyState) (m b index : ℕ) (p : Piece) (chunk : ℕ)

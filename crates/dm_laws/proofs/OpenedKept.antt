@@ -1,10 +1,10 @@
 -- An opened state keeps the invariant.
-use Rattle.std.proofs.Common.{◌≡◌, ◌≤◌, ℕ, true, None, Some, is_some, List, option_map, sym, ap, subst, ◌∙◌}
+use Rattle.std.proofs.Common.{◌≡◌, ◌≤◌, ℕ, true, false, None, Some, IsSome, is_some, List, option_map, sym, ap, subst, ◌∙◌}
 use Rattle.std.specs.FinMap as map
 use Rattle.dm_base.specs.declared.conf.GroupConf.{GroupConf}
 use Rattle.dm_tables.specs.Rows.{EachRow}
 use Rattle.dm_state.specs.Tables.{Numbered, Named}
-use Rattle.dm_state.specs.Entries.{asks}
+use Rattle.dm_state.specs.Entries.{asks, has_stored}
 use Rattle.dm_state.specs.declared.daemon.Entry.{Entry}
 use Rattle.dm_state.specs.declared.daemon.Inode.{Inode}
 use Rattle.dm_state.specs.declared.group.BitfileRow.{BitfileRow}
@@ -21,19 +21,20 @@ use Rattle.dm_parts.specs.declared.state.Side.{Side}
 use Rattle.dm_parts.specs.declared.state.Worker.{Worker}
 use Rattle.dm_laws.specs.Assemble.{assembled_of}
 use Rattle.dm_laws.specs.Opened.{Fits, SideOpened, Opened}
-use Rattle.dm_laws.specs.Sound.{CopyRight, CopySound, Live, Kept as InHand, GroupSound}
+use Rattle.dm_laws.specs.Sound.{CopyRight, CopySound, Live, Kept as InHand, GroupSound, Sound}
 use Rattle.dm_laws.proofs.FilesKept.{FilesKept}
 use Rattle.dm_laws.proofs.RequestsKept.{RequestsKept}
 use Rattle.dm_laws.proofs.RecallsKept.{RecallsKept}
 use Rattle.dm_laws.proofs.CatalogueKept.{BitfileKept, CatalogueKept}
 use Rattle.dm_laws.proofs.VolumesKept.{VolumesKept}
-use Rattle.dm_laws.proofs.MountsKept.{mounted, MountsKept}
+use Rattle.dm_laws.specs.Rows.{mounted}
+use Rattle.dm_laws.proofs.MountsKept.{MountsKept}
 use Rattle.dm_laws.proofs.ReservationsKept.{ReservationsKept}
 use Rattle.dm_laws.proofs.PlacesKept.{PlacesKept}
 use Rattle.dm_laws.proofs.DoubtsKept.{MayLandIf}
 use Rattle.dm_laws.proofs.Kept.{SideKept, Kept}
 use Rattle.dm_laws.proofs.Assembled.{assembled_known}
-use Rattle.dm_laws.proofs.Options.{value_of}
+use Rattle.dm_laws.proofs.Options.{same_row, value_of}
 use Rattle.dm_laws.proofs.LookUps.{each_of_empty, none_in_empty, get_of_empty}
 use Rattle.dm_laws.proofs.Doubts.{settled}
 
@@ -114,19 +115,28 @@ bitfile_kept d g s b row e k is entry asked copy =
 abbrev CopiesSound : Daemon → ℕ → Side → Type 0
 CopiesSound d g s = EachRow d.tables.entries (λ b e. CopySound d.contents g s b e)
 
+-- what entries say is stored is there
+abbrev StoredThere : Daemon → ℕ → Side → Type 0
+StoredThere d g s = EachRow d.tables.entries (λ b e. e.dropping ≡ false → has_stored e g ≡ true → IsSome (map.get s.group.tables.bitfiles b))
+
+stored_side : (j : Joint) (g : ℕ) (s : Side) → Sound j → map.get j.sides g ≡ Some s → StoredThere j.daemon g s
+stored_side j g s sound is = λ b e there lasting had.
+    let k = sound.stored b e there lasting g had in
+    subst (λ x. IsSome (map.get x.group.tables.bitfiles b)) (same_row (map.get j.sides g) k.side s k.is is) k.there
+
 each_bitfile : (d : Daemon) (g : ℕ) (s : Side) → GroupSound d g s → CopiesSound d g s
     → EachRow s.group.tables.bitfiles (BitfileKept g d.tables.entries d.contents s.group.tables.volumes s.images)
 each_bitfile d g s k copies = λ b row is.
     let a = k.asked b row is in
-    bitfile_kept d g s b row a.entry k is a.is a.asked ((copies b a.entry a.is).right a.asked (ap is_some is))
+    bitfile_kept d g s b row a.entry k is a.is a.asked (copies b a.entry a.is a.asked (ap is_some is))
 
-catalogue_kept : (d : Daemon) (g : ℕ) (s : Side) → GroupSound d g s → CopiesSound d g s → SideOpened s
+catalogue_kept : (d : Daemon) (g : ℕ) (s : Side) → GroupSound d g s → CopiesSound d g s → StoredThere d g s → SideOpened s
     → CatalogueKept g d.tables.entries d.contents s.group.tables.volumes s.images s.group.tables.bitfiles s.group.committed
-catalogue_kept d g s k copies o =
+catalogue_kept d g s k copies stored o =
     let each = each_bitfile d g s k copies in
     record {
       bitfile = each;
-      stored = λ b e is. (copies b e is).there;
+      stored = stored;
       commits = λ b len is e entry lasting. o.committed b len is;
       commits_made = λ b len is.
           let row = value_of (map.get s.group.tables.bitfiles b) (o.committed b len is) in
@@ -148,13 +158,13 @@ volumes_kept j g s f is k = record {
 }
 
 side_kept : (j : Joint) (g : ℕ) (s : Side) → Fits j → map.get j.sides g ≡ Some s → GroupSound j.daemon g s → CopiesSound j.daemon g s
-    → SideOpened s → SideKept j.daemon.tables.entries j.daemon.contents j.daemon.requests g s
-side_kept j g s f is k copies o =
+    → StoredThere j.daemon g s → SideOpened s → SideKept j.daemon.tables.entries j.daemon.contents j.daemon.requests g s
+side_kept j g s f is k copies stored o =
     let d = j.daemon in
     let x = s.group in
     let t = x.tables in
     record {
-      catalogue = catalogue_kept j.daemon g s k copies o;
+      catalogue = catalogue_kept j.daemon g s k copies stored o;
       volumes = volumes_kept j g s f is k;
       mounts = mounts_none x.conf t.volumes t.bitfiles x.reservations s.copies x.mounts s.mounts o.group_mounts o.mounts k.drives;
       reservations =
@@ -178,7 +188,7 @@ files_kept j o =
       unnamed = s.unnamed;
       gone = s.gone;
       entries_made = s.identifiers;
-      contents_made = o.contents;
+      contents_made = s.contents;
       asked = λ b e is. (o.fits.entries b e is).groups;
       short = o.fits.short;
       size = o.fits.size;
@@ -195,6 +205,7 @@ opened_kept j o = record {
   requests = requests_none j.daemon.requests j.daemon.tables.inodes j.daemon.tables.entries j.daemon.contents o.requests;
   recalls = recalls_none j.workers j.daemon.requests j.daemon.tables.entries j.daemon.contents o.workers;
   configured = λ b e is. (o.fits.entries b e is).configured;
-  sides = λ g s is. side_kept j g s o.fits is (o.sound.groups g s is) (λ b e there. o.sound.copies b e there g s is) (o.sides g s is);
+  sides = λ g s is. side_kept j g s o.fits is (o.sound.groups g s is) (λ b e there. o.sound.copies b e there g s is)
+      (stored_side j g s o.sound is) (o.sides g s is);
   doubt = no_doubt j o.doubt;
 }

@@ -81,5 +81,3 @@ pub record Opened (j : Joint) : Type 0 where
   pub workers : j.workers ≡ map.empty
   pub inodes : EachRow j.daemon.tables.inodes (λ n i. NotMaking i.contents)
   pub sides : EachRow j.sides (λ g s. SideOpened s)
-  -- contents are of bitfiles that were made
-  pub contents : EachRow j.daemon.contents (λ b bytes. b < bfid_of j.daemon.tables.site j.daemon.tables.counter)

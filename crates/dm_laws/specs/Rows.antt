@@ -18,6 +18,8 @@ use Rattle.dm_parts.specs.declared.state.Image.{Image}
 use Rattle.dm_parts.specs.declared.state.OpenRequest.{OpenRequest}
 use Rattle.dm_parts.specs.Files.{is_put, is_recall}
 use Rattle.dm_parts.specs.Volumes.{tip_or}
+use Rattle.dm_parts.specs.declared.state.Mounted.{Mounted}
+use Rattle.dm_parts.specs.declared.state.MountState.{MountState}
 use Rattle.dm_laws.specs.Assemble.{known_on}
 
 -- ---- files and entries
@@ -101,3 +103,7 @@ pub record ZoneInHand (volumes : Named VolumeRow) (tips : Named ℕ) (chunk : �
 -- a chunk's bytes are known and are its part of the bitfile
 abbrev pub ChunkKnown : Named Image → List ℕ → Chunk → Type 0
 ChunkKnown images bytes c = known_bytes (known_on images c.vsn.0) c.place c.len ≡ Some (take c.len (drop c.offset bytes))
+
+-- what the group has of a mount
+abbrev pub mounted : MountState → Mounted
+mounted x = record { vsn = x.vsn; epoch = x.epoch }

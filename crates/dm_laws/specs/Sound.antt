@@ -33,9 +33,16 @@ use Rattle.dm_parts.specs.declared.state.Side.{Side}
 use Rattle.dm_parts.specs.Volumes.{tip_of, epoch_or}
 use Rattle.dm_laws.specs.Among.{Among}
 use Rattle.dm_laws.specs.Assemble.{assembled}
-use Rattle.dm_laws.specs.Rows.{PiecesJoin, HeldRightly, NotAfter, RequestEntry, PutOpen, ChunkCovers, PieceCovers, LiesBefore, ZoneInHand, ChunkKnown}
+use Rattle.std.specs.Option.{option_map}
+use Rattle.dm_laws.specs.Rows.{mounted, PiecesJoin, HeldRightly, NotAfter, RequestEntry, PutOpen, ChunkCovers, PieceCovers, LiesBefore, ZoneInHand, ChunkKnown}
 
 -- ---- copies and contents
+
+-- a group has the bitfile
+pub record InGroup (sides : Numbered Side) (g b : ℕ) : Type 0 where
+  pub side : Side
+  pub is : map.get sides g ≡ Some side
+  pub there : IsSome (map.get side.group.tables.bitfiles b)
 
 -- the copy that a group has of a bitfile is the content, which has the length of the entry
 pub record CopyRight (contents : Numbered (List ℕ)) (s : Side) (b : ℕ) (e : Entry) : Type 0 where
@@ -44,9 +51,9 @@ pub record CopyRight (contents : Numbered (List ℕ)) (s : Side) (b : ℕ) (e : 
   pub content : map.get contents b ≡ Some bytes
   pub len : length bytes ≡ e.len
 
-pub record CopySound (contents : Numbered (List ℕ)) (g : ℕ) (s : Side) (b : ℕ) (e : Entry) : Type 0 where
-  pub right : asks e g ≡ true → IsSome (map.get s.group.tables.bitfiles b) → CopyRight contents s b e
-  pub there : e.dropping ≡ false → has_stored e g ≡ true → IsSome (map.get s.group.tables.bitfiles b)
+-- so it is where the group was asked and has the bitfile
+abbrev pub CopySound : Numbered (List ℕ) → ℕ → Side → ℕ → Entry → Type 0
+CopySound contents g s b e = asks e g ≡ true → IsSome (map.get s.group.tables.bitfiles b) → CopyRight contents s b e
 
 -- ---- places
 
@@ -142,8 +149,12 @@ pub record GroupSound (d : Daemon) (g : ℕ) (s : Side) : Type 0 where
   pub apart : (o p : Owner) (vsn : List ℕ) (place : ℕ) → Has s.group o vsn place → Has s.group p vsn place → o ≡ p
   -- each reservation is of a bitfile whose put is open
   pub puts : EachRow s.group.reservations (λ n r. PutOpen d.requests r.bfid.0)
+  -- what was ever committed has a content
+  pub committed : EachRow s.group.committed (λ b len. IsSome (map.get d.contents b))
   -- volumes were freed in the past
   pub held : EachRow s.group.tables.volumes (λ v row. NotAfter s.group.tables.time.0 row.held)
+  -- the group has what its mounts are of
+  pub mounted_same : (m : ℕ) → map.get s.group.mounts m ≡ option_map mounted (map.get s.mounts m)
   -- mounts have the epochs of their volumes; a volume has one mount, and the group no more than drives
   pub epochs : EachRow s.group.mounts (λ m x. x.epoch ≡ epoch_or (map.get s.group.tables.volumes x.vsn.0))
   pub mounts : (m n : ℕ) (x y : Mounted) → map.get s.group.mounts m ≡ Some x → map.get s.group.mounts n ≡ Some y → x.vsn.0 ≡ y.vsn.0 → m ≡ n
@@ -157,11 +168,6 @@ pub record GroupSound (d : Daemon) (g : ℕ) (s : Side) : Type 0 where
 abbrev pub TakenRight : Numbered Inode → Numbered (List ℕ) → ℕ → List ℕ → Type 0
 TakenRight inodes contents n bytes =
     (i : Inode) (b : Bfid) (len : ℕ) → map.get inodes n ≡ Some i → i.contents ≡ Offline len b → map.get contents b.0 ≡ Some bytes
-
-pub record InGroup (sides : Numbered Side) (g b : ℕ) : Type 0 where
-  pub side : Side
-  pub is : map.get sides g ≡ Some side
-  pub there : IsSome (map.get side.group.tables.bitfiles b)
 
 abbrev pub StepRight : Joint → DaemonStep → Type 0
 StepRight j (Write path change bytes) = Unit {0}
@@ -189,9 +195,12 @@ pub record DaemonSound (j : Joint) (d : Daemon) : Type 0 where
   pub gone : EachRow d.tables.entries (λ b e. NotAfter d.tables.time.0 e.gone)
   pub numbers : EachRow d.tables.inodes (λ n i. (n ≤ d.tables.change) × (i.change ≤ d.tables.change))
   pub identifiers : EachRow d.tables.entries (λ b e. b < bfid_of d.tables.site d.tables.counter)
+  pub contents : EachRow d.contents (λ b bytes. b < bfid_of d.tables.site d.tables.counter)
   pub doubt : DaemonDoubtSound j d.doubt
 
 pub record Sound (j : Joint) : Type 0 where
   pub daemon : DaemonSound j j.daemon
   pub groups : EachRow j.sides (GroupSound j.daemon)
   pub copies : EachRow j.daemon.tables.entries (λ b e. EachRow j.sides (λ g s. CopySound j.daemon.contents g s b e))
+  -- what an entry that isn't being dropped says is stored is in its group
+  pub stored : EachRow j.daemon.tables.entries (λ b e. e.dropping ≡ false → (g : ℕ) → has_stored e g ≡ true → InGroup j.sides g b)
