@@ -1,25 +1,17 @@
 -- The entry of a bitfile is there wherever a group is asked to keep room for it or to mount a chunk of it.
 use Rattle.std.proofs.Common.{◌≡◌, ℕ, true, false, Some, None, Option, List, nat_eq, refl, ◌∙◌}
 use Rattle.std.specs.FinMap as map
-use Rattle.dm_state.specs.Entries.{asks, is_stored}
-use Rattle.dm_state.specs.declared.daemon.Entry.{Entry}
 use Rattle.dm_parts.specs.declared.state.CopyState.{CopyState}
 use Rattle.dm_machine.specs.declared.state.Joint.{Joint}
 use Rattle.dm_parts.specs.declared.state.Side.{Side}
 use Rattle.dm_plans.specs.GroupCalls.{may_reserve, recalls_from}
 use Rattle.dm_machine.specs.Step.{Entered, Run}
+use Rattle.dm_laws.specs.There.{AskedEntry, WholeEntry}
 use Rattle.dm_laws.specs.Opened.{Opened}
 use Rattle.dm_laws.proofs.Corollaries.{run_kept}
 use Rattle.dm_laws.proofs.Kept.{Kept}
 use Rattle.std.proofs.lemmas.Bool.{and_parts, eqb-true}
 use Rattle.dm_laws.proofs.RecalledEntries.{recalled_entry}
-
--- the entry is there, asks the group and has this length
-pub record AskedEntry (j : Joint) (g b len : ℕ) : Type 0 where
-  pub entry : Entry
-  pub is : map.get j.daemon.tables.entries b ≡ Some entry
-  pub asked : asks entry g ≡ true
-  pub sized : entry.len ≡ len
 
 copy_asked : (j : Joint) (g b len : ℕ) (s : Side) (o : Option CopyState) → Kept j → map.get j.sides g ≡ Some s → map.get s.copies b ≡ o
     → may_reserve o len ≡ true → AskedEntry j g b len
@@ -37,13 +29,6 @@ pub entry_at_reserve : (j : Joint) (entries : List Entered) (k : Joint) → Open
     → may_reserve (map.get s.copies b) len ≡ true → AskedEntry k g b len
 entry_at_reserve j entries k opened run g b len s side may =
     copy_asked k g b len s (map.get s.copies b) (run_kept j entries k opened run) side refl may
-
--- the entry is there, is not being dropped, and has every copy stored
-pub record WholeEntry (j : Joint) (b : ℕ) : Type 0 where
-  pub entry : Entry
-  pub is : map.get j.daemon.tables.entries b ≡ Some entry
-  pub lasting : entry.dropping ≡ false
-  pub whole : is_stored entry ≡ true
 
 -- where a worker may mount a chunk of a bitfile, its entry is there and whole
 pub entry_at_mount : (j : Joint) (entries : List Entered) (k : Joint) → Opened j → Run j entries k → (w g b : ℕ)

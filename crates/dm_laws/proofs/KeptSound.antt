@@ -1,7 +1,6 @@
 -- A state that keeps the invariant is sound, part by part.
 use Rattle.std.proofs.Common.{◌≡◌, ◌&&◌, ℕ, true, false, nat_eq, Option, None, Some, List, option_map, refl, sym, ap, subst, ◌∙◌}
 use Rattle.std.proofs.lemmas.Bool.{and_parts, eqb-true}
-use Rattle.dm_base.specs.declared.identifier.GroupId.{GroupId}
 use Rattle.dm_state.specs.Entries.{has_stored}
 use Rattle.dm_parts.specs.Files.{asked_by}
 use Rattle.std.specs.FinMap.{get}
@@ -23,6 +22,11 @@ use Rattle.dm_laws.specs.Sound.{CopySound, Owner, Live, Kept as InHand, Doubted,
 use Rattle.dm_laws.specs.Sound.{InGroup, GroupSound, StepRight, DaemonDoubtSound, DaemonSound, Sound}
 use Rattle.dm_parts.specs.Volumes.{epoch_or}
 use Rattle.dm_laws.specs.Rows.{mounted}
+use Rattle.dm_laws.specs.Opened.{VolumeFits, Fits}
+use Rattle.dm_base.specs.declared.conf.GroupConf.{GroupConf}
+use Rattle.dm_parts.specs.declared.state.Group.{Group}
+use Rattle.dm_state.specs.declared.group.VolumeRow.{VolumeRow}
+use Rattle.dm_laws.proofs.VolumesKept.{IsOfConf, VolumeKept}
 use Rattle.dm_laws.proofs.PlacesKept.{PlacesKept}
 use Rattle.dm_laws.proofs.DoubtsKept.{StepNeeds, MayLandIf, GroupStepNeeds, GroupMayLandIf}
 use Rattle.dm_laws.proofs.AskedGroups.{NumberAmong}
@@ -192,4 +196,24 @@ kept_sound j k = record {
   groups = λ g s is. group_sound j.daemon g s (k.sides g s is);
   copies = λ b e is g s there. copy_sound j.daemon g s b e (k.sides g s there) is;
   stored = λ b e is lasting g had. stored_there j k b e is lasting g had;
+}
+
+-- ---- the configuration
+
+volume_fits : (conf : GroupConf) (x : Group) (vsn : List ℕ) (v : VolumeRow) → x.conf ≡ conf → VolumeKept conf x.tips vsn v → VolumeFits x vsn v
+volume_fits conf x vsn v same k = record {
+  configured = subst (λ c. IsOfConf c vsn) (sym same) k.configured;
+  size = k.size ∙ sym (ap (λ c. c.size) same);
+  slot = k.slot;
+  epoch = k.epoch;
+}
+
+-- and fits the configuration
+pub kept_fits : (j : Joint) → Kept j → Fits j
+kept_fits j k = record {
+  size = k.files.size;
+  short = k.files.short;
+  entries = λ b e is. record { groups = k.files.asked b e is; configured = k.configured b e is };
+  confs = λ g s is. (k.sides g s is).volumes.fits;
+  volumes = λ g s is vsn v at. volume_fits s.group.conf s.group vsn v refl ((k.sides g s is).volumes.volume vsn v at);
 }

@@ -5,3 +5,4 @@ pub mod Sound
 pub mod Opened
 pub mod StandsFor
 pub mod Reads
+pub mod There

@@ -7,7 +7,6 @@ use Rattle.dm_base.specs.declared.serial.Vsn.{Vsn}
 use Rattle.dm_rules.specs.Label.{first_zone}
 use Rattle.dm_tables.specs.Rows.{EachRow}
 use Rattle.dm_state.specs.Tables.{Numbered}
-use Rattle.dm_state.specs.Daemon.{bfid_of}
 use Rattle.dm_state.specs.DaemonConditions.{OneOrTwo}
 use Rattle.dm_state.specs.Inodes.{length_of}
 use Rattle.dm_state.specs.Limits.{file_limit, volumes_limit}

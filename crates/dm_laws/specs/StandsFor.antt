@@ -32,12 +32,13 @@ use Rattle.dm_laws.specs.Assemble.{assembled_in}
 
 -- ---- the namespace
 
--- the first of the copies that assembles; the groups are those that were asked, in order
+-- what a copy assembles to, or nothing
 abbrev pub copy_or : Option (List ℕ) → List ℕ
 copy_or None = []
 copy_or (Some bytes) = bytes
 
--- what the first asked copy of a bitfile assembles to. In a sound state the copy of an offline file is always there
+-- what the first asked copy of a bitfile assembles to. In a sound state that fits the configuration the copy of an offline
+-- file is always there
 abbrev pub first_copy : Numbered Side → ℕ → List GroupId → List ℕ
 first_copy sides b [] = []
 first_copy sides b (g ∷ gs) = copy_or (assembled_in (map.get sides g.0) b)
