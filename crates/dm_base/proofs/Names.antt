@@ -1,9 +1,9 @@
--- The test of a path against its grammar.
+-- The tests of names against their grammar.
 use Rattle.std.proofs.Common.{◌≡◌, ℕ, ◌<◌, ◌≤◌, Bool, true, false, cond, ◌&&◌, List, [], ◌∷◌, ◌++◌, length, refl, sym, ◌∙◌, ap, subst, arith}
-use Rattle.std.proofs.lemmas.Bool.{and_parts, and_from, eqb-true, false≢true, ne_eqb}
+use Rattle.std.proofs.lemmas.Bool.{and_parts, and_from, eqb-true, eq-eqb, false≢true, ne_eqb, le-leb, lt-leb, leb-true, lt-ltb, ltb-true}
 use Rattle.std.specs.List.{AllByRecursion, flat_map}
-use Rattle.std.specs.Prelude.{IsTrue, ◌==◌}
-use Rattle.dm_base.specs.Naming.{IsName, IsPath, is_name_byte, is_spelled, is_all_name, is_serial_byte, is_all_serial}
+use Rattle.std.specs.Prelude.{IsTrue, ◌==◌, nat_le, nat_lt}
+use Rattle.dm_base.specs.Naming.{IsName, IsPath, IsDumpName, is_name_byte, is_spelled, is_path_text, is_dump_name_text, is_all_name, is_serial_byte, is_all_serial}
 
 abbrev pub slashed : List (List ℕ) → List ℕ
 slashed names = flat_map (λ (name : List ℕ). 47 ∷ name) names
@@ -99,20 +99,59 @@ passes_from text (name ∷ names) some each is fits =
 pub passes : (text : List ℕ) → IsPath text → Passes text
 passes text p = passes_from text p.names p.some p.each p.spelled p.fits
 
--- the cases of the test, as the code meets them
-pub none_empty : (text : List ℕ) → length text ≡ 0 → IsPath text → ⊥
-none_empty text e p = let s = passes text p in omega (arith, ap length s.is)
+-- the test of a whole text, where the code ends it
+pub text_empty : (text : List ℕ) → length text ≡ 0 → false ≡ is_path_text text
+text_empty [] e = refl
+text_empty (b ∷ bs) e = absurd (omega (arith, e))
 
-pub none_unslashed : (text : List ℕ) (first : ℕ) (rest : List ℕ) → text ≡ first ∷ rest → (first ≡ 47 → ⊥) → IsPath text → ⊥
-none_unslashed text first rest e other p = let s = passes text p in other (let both : first ∷ rest ≡ 47 ∷ s.rest = sym e ∙ s.is in cc)
-
-pub decided : (text : List ℕ) (first : ℕ) (rest : List ℕ) (r : Bool) → text ≡ first ∷ rest → first ≡ 47 → length text ≤ 255 → r ≡ is_spelled false rest
-    → (IsTrue r → IsPath text) × (IsPath text → IsTrue r)
-decided text first rest r e slash fits is =
-    let whole : text ≡ 47 ∷ rest = e ∙ ap (λ b. b ∷ rest) slash in (
-      λ t. subst IsPath (sym whole) (path_of rest (sym is ∙ t) (subst (λ (l : List ℕ). length l ≤ 255) whole fits)),
-      λ p. let s = passes text p in let same : rest ≡ s.rest = (let both : 47 ∷ rest ≡ 47 ∷ s.rest = sym whole ∙ s.is in cc) in is ∙ ap (is_spelled false) same ∙ s.passes,
+pub text_unslashed : (text : List ℕ) (first : ℕ) (rest : List ℕ) → text ≡ first ∷ rest → (first ≡ 47 → ⊥) → false ≡ is_path_text text
+text_unslashed text first rest e other =
+    sym (
+    ap is_path_text e
+    ∙ ap (λ (t : Bool). t && nat_le (length (first ∷ rest)) 255 && is_spelled false rest) (ne_eqb first 47 other)
     )
+
+-- the two tests behind the first, by what they are
+behind_slash : (first : ℕ) (rest : List ℕ) (fits named : Bool) → first ≡ 47 → nat_le (length (first ∷ rest)) 255 ≡ fits → is_spelled false rest ≡ named
+    → is_path_text (first ∷ rest) ≡ (fits && named)
+behind_slash first rest fits named slash e n =
+    ap (λ (t : Bool). t && nat_le (length (first ∷ rest)) 255 && is_spelled false rest) (eq-eqb first 47 slash)
+    ∙ ap (λ (t : Bool). true && t && is_spelled false rest) e
+    ∙ ap (λ (t : Bool). true && fits && t) n
+
+pub text_long : (text : List ℕ) (first : ℕ) (rest : List ℕ) → text ≡ first ∷ rest → first ≡ 47 → 255 < length text → false ≡ is_path_text text
+text_long text first rest e slash long =
+    sym (
+    ap is_path_text e
+    ∙ behind_slash first rest false (is_spelled false rest) slash (lt-leb _ 255 (subst (λ (t : List ℕ). 255 < length t) e long)) refl
+    )
+
+pub text_names : (text : List ℕ) (first : ℕ) (rest : List ℕ) (r : Bool) → text ≡ first ∷ rest → first ≡ 47 → length text ≤ 255 → r ≡ is_spelled false rest → r ≡ is_path_text text
+text_names text first rest r e slash fits is =
+    sym (
+    ap is_path_text e
+    ∙ behind_slash first rest true r slash (le-leb _ 255 (subst (λ (t : List ℕ). length t ≤ 255) e fits)) (sym is)
+    )
+
+-- the test decides the grammar
+pub path_spelled : (text : List ℕ) → IsTrue (is_path_text text) → IsPath text
+path_spelled [] h = absurd (false≢true h)
+path_spelled (first ∷ rest) h =
+    let outer = and_parts (first == 47 && nat_le (length (first ∷ rest)) 255) (is_spelled false rest) h in
+    let inner = and_parts (first == 47) (nat_le (length (first ∷ rest)) 255) outer.0 in
+    let slash : first ≡ 47 = eqb-true first 47 inner.0 in
+    let fits : length (first ∷ rest) ≤ 255 = leb-true _ 255 inner.1 in
+    let whole : first ∷ rest ≡ 47 ∷ rest = ap (λ (b : ℕ). b ∷ rest) slash in
+    subst IsPath (sym whole) (path_of rest outer.1 (subst (λ (l : List ℕ). length l ≤ 255) whole fits))
+
+pub path_passes : (text : List ℕ) → IsPath text → IsTrue (is_path_text text)
+path_passes text p = let s = passes text p in
+    ap is_path_text s.is
+    ∙ behind_slash 47 s.rest true true refl (le-leb _ 255 (subst (λ (l : List ℕ). length l ≤ 255) s.is s.fits)) s.passes
+
+-- an answer that is that of the test decides the grammar
+pub path_decided : (text : List ℕ) (r : Bool) → r ≡ is_path_text text → (IsTrue r → IsPath text) × (IsPath text → IsTrue r)
+path_decided text r is = (λ t. path_spelled text (sym is ∙ t), λ p. is ∙ path_passes text p)
 
 -- a test of each byte, and the fact of each byte
 pub all_name : (bytes : List ℕ) → IsTrue (is_all_name bytes) → AreNameBytes bytes
@@ -131,7 +170,34 @@ pub all_serial_back : (bytes : List ℕ) → AllByRecursion (λ b. IsTrue (is_se
 all_serial_back [] h = refl
 all_serial_back (b ∷ bs) h = and_from (is_serial_byte b) (is_all_serial bs) h.0 (all_serial_back bs h.1)
 
--- a list whose length isn't 0 has an item
-pub some_length : (bytes : List ℕ) → (length bytes == 0) ≡ false → 0 < length bytes
-some_length [] e = absurd (false≢true (sym e))
-some_length (b ∷ bs) e = omega arith
+-- the same for the name of a dump
+pub dump_name_empty : (text : List ℕ) → IsTrue (length text == 0) → false ≡ is_dump_name_text text
+dump_name_empty [] e = refl
+dump_name_empty (b ∷ bs) e = absurd (omega (arith, eqb-true (length (b ∷ bs)) 0 e))
+
+-- the tests behind the first, by what they are
+dump_name_tests : (text : List ℕ) (some fits : Bool) → nat_lt 0 (length text) ≡ some → nat_le (length text) 32 ≡ fits → is_dump_name_text text ≡ (some && fits && is_all_name text)
+dump_name_tests text some fits s f =
+    ap (λ (t : Bool). t && nat_le (length text) 32 && is_all_name text) s ∙ ap (λ (t : Bool). some && t && is_all_name text) f
+
+some_lt : (text : List ℕ) → (length text == 0) ≡ false → nat_lt 0 (length text) ≡ true
+some_lt [] e = absurd (false≢true (sym e))
+some_lt (b ∷ bs) e = lt-ltb 0 (length (b ∷ bs)) (omega arith)
+
+pub dump_name_long : (text : List ℕ) → (length text == 0) ≡ false → 32 < length text → false ≡ is_dump_name_text text
+dump_name_long text e long = sym (dump_name_tests text true false (some_lt text e) (lt-leb _ 32 long))
+
+pub dump_name_bytes : (text : List ℕ) (r : Bool) → (length text == 0) ≡ false → length text ≤ 32 → r ≡ is_all_name text → r ≡ is_dump_name_text text
+dump_name_bytes text r e fits is = is ∙ sym (dump_name_tests text true true (some_lt text e) (le-leb _ 32 fits))
+
+pub dump_name_spelled : (text : List ℕ) → IsTrue (is_dump_name_text text) → IsDumpName text
+dump_name_spelled text h =
+    let outer = and_parts (nat_lt 0 (length text) && nat_le (length text) 32) (is_all_name text) h in
+    let inner = and_parts (nat_lt 0 (length text)) (nat_le (length text) 32) outer.0 in
+    record { some = ltb-true 0 (length text) inner.0; bytes = all_name text outer.1; fits = leb-true _ 32 inner.1 }
+
+pub dump_name_passes : (text : List ℕ) → IsDumpName text → IsTrue (is_dump_name_text text)
+dump_name_passes text d = dump_name_tests text true true (lt-ltb 0 (length text) d.some) (le-leb _ 32 d.fits) ∙ all_name_back text d.bytes
+
+pub dump_name_decided : (text : List ℕ) (r : Bool) → r ≡ is_dump_name_text text → (IsTrue r → IsDumpName text) × (IsDumpName text → IsTrue r)
+dump_name_decided text r is = (λ t. dump_name_spelled text (sym is ∙ t), λ d. is ∙ dump_name_passes text d)

@@ -1,2 +1,4 @@
 pub mod Hexadecimal
+pub mod Limits
 pub mod Naming
+pub mod Prefix

@@ -12,7 +12,7 @@ pub struct DaemonConf {
     /// The first counter, the lower half, where no put was begun yet.
     pub first: u64,
     /// The age of a deleted entry, in seconds, from which on its copies are deleted, and of a dump
-    /// from which on nothing is restored from it.
+    /// from which on nothing is restored from it. It is read only where nothing was journalled yet.
     pub age: u64,
     /// The most bytes of all files and dumps together.
     pub cap: u64,
@@ -33,9 +33,27 @@ pub struct GroupConf {
     pub volumes: Listed<Vsn>,
     /// The size of each volume.
     pub size: u64,
+    /// The version that a volume gets as it is added or used again: 1 or 2.
+    pub format: u8,
 }
 
-/// What of a configuration is refused.
+/// What space management is bounded and led by.
+#[derive(Clone, Copy, Debug, PartialEq, Eq)]
+pub struct SpaceConf {
+    /// Files are released where more bytes than this are on the disk.
+    pub high: u64,
+    /// They are released until at most so many bytes are left on the disk.
+    pub low: u64,
+    /// Files are stored until at most so many bytes are on the disk alone.
+    pub ahead: u64,
+    /// How much each change since a file's own counts for its rank.
+    pub age_weight: u64,
+    /// How much each byte of a file counts for its rank.
+    pub size_weight: u64,
+}
+
+/// What of a configuration is refused: the first of these that is violated, in this order, where those
+/// of a group stand together, the groups by their numbers.
 #[derive(Clone, Copy, Debug, PartialEq, Eq)]
 pub enum ConfKey {
     /// The length of the whole text.
@@ -55,6 +73,12 @@ pub enum ConfKey {
     GroupHold { group: GroupId },
     GroupVolumes { group: GroupId },
     GroupSize { group: GroupId },
+    GroupFormat { group: GroupId },
+    SpaceHigh,
+    SpaceLow,
+    SpaceAhead,
+    SpaceAgeWeight,
+    SpaceSizeWeight,
     /// Any other key.
     Unknown,
 }

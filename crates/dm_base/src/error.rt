@@ -1,9 +1,10 @@
 //! Why a call is refused.
 
 use crate::conf::ConfKey;
-use crate::identifier::Secs;
+use crate::identifier::{GroupId, Secs};
 use crate::reply::FileState;
 use crate::request::Form;
+use crate::serial::Vsn;
 use crate::volume::Chunk;
 
 /// Why a component's tables were not loaded.
@@ -90,7 +91,7 @@ pub enum DaemonError {
     Full { have: u64, need: u64, cap: u64 },
     /// There is no dump of that name.
     NoDump,
-    /// The dump is too old to restore from.
+    /// The dump is too old to restore from; `age` is the least that was in force since it was made.
     Expired { now: Secs, made: Secs, age: u64 },
     /// What is to be made is there.
     Exists,
@@ -117,4 +118,13 @@ pub enum GroupError {
     Moved { found: Option<Chunk> },
     /// Memory was refused.
     NoMemory,
+}
+
+/// Why a copy could not be read: its devices reported `faults` faults in this call, or a chunk of it,
+/// on that volume at that place, was seen to have other bytes than were stored.
+#[derive(Clone, Copy, Debug, PartialEq, Eq)]
+pub struct CopyFault {
+    pub group: GroupId,
+    pub faults: u64,
+    pub damaged: Option<(Vsn, u64)>,
 }

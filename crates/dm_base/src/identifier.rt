@@ -1,6 +1,6 @@
 //! Identifiers of bitfiles and volume groups.
 
-ghost use Rattle.std.specs.Prelude.{◌≡◌, ◌+◌, ◌*◌, ◌^◌, ◌<◌};
+ghost use Rattle.std.specs.Prelude.{◌≡◌, ◌≢◌, ℕ, ◌+◌, ◌*◌, ◌^◌, ◌<◌, IfSome, IfNone};
 ghost use Rattle.dm_base.specs.Hexadecimal.{hexadecimal, hexadecimal_digit as digit_of};
 
 /// Identifies a bitfile: the bytes that one put stored. The upper 64 bits are the number of the
@@ -42,6 +42,40 @@ impl Bfid {
             rest /= 16;
         }
         digits
+    }
+}
+
+impl Bfid {
+    /// The identifier that prints as this text, or none where the text is no such print: other than 32
+    /// digits, or a capital among them.
+    pub fn of_digits(text: &[u8]) -> Option<Bfid>
+        ensures spelled { IfSome result (λ bfid. hexadecimal 32 bfid.0 ≡ text.now) }
+        ensures none { IfNone result ((n : ℕ) → hexadecimal 32 n ≢ text.now) }
+    {
+        if text.len() != BFID_DIGITS {
+            return None;
+        }
+        let mut value = 0;
+        for byte in text {
+            let Some(digit) = hexadecimal_value(*byte) else {
+                return None;
+            };
+            value = value * 16 + u128::from(digit);
+        }
+        Some(Bfid(value))
+    }
+}
+
+// What a digit stands for, where the byte is one.
+fn hexadecimal_value(byte: u8) -> Option<u8>
+    ensures small { IfSome result (λ value. value < 16) }
+    ensures spelled { IfSome result (λ value. digit_of value ≡ byte) }
+    ensures none { IfNone result ((value : ℕ) → value < 16 → digit_of value ≢ byte) }
+{
+    match byte {
+        b'0'..=b'9' => Some(byte - b'0'),
+        b'a'..=b'f' => Some(byte - b'a' + 10),
+        _ => None,
     }
 }
 

@@ -1,11 +1,16 @@
-//! Names of files, and their grammar (docs/DEFINITIONS.md, "Names").
+//! Names of files and of dumps, and their grammar (docs/DEFINITIONS.md, "Names").
+//!
+//! A `Path` and a `DumpName` are in their grammar whoever holds them: it is the invariant of their
+//! model, so a length, a record or a row that rests on it needs no test. Both are in the order of
+//! their bytes, which is the order of every list of files and dumps.
 
 ghost use Rattle.std.specs.Prelude.{◌≡◌, ◌↔◌, false, IsTrue, IfOk, IsErrOf};
-ghost use Rattle.dm_base.specs.Naming.{IsDumpName, IsPath, is_all_name, is_name_byte as is_name_byte_of, is_spelled};
+ghost use Rattle.dm_base.specs.Naming.{IsDumpName, IsPath, is_all_name, is_dump_name_text};
+ghost use Rattle.dm_base.specs.Naming.{is_name_byte as is_name_byte_of, is_path_text, is_spelled};
 
+use crate::contents::Bytes;
 use crate::memory::NoMemory;
 use std::alloc::Global;
-use std::cmp::Ordering;
 use std::marker::Model;
 
 /// The most bytes that a path has.
@@ -19,35 +24,45 @@ pub const DUMP_NAME_LIMIT: usize = 32;
 pub enum TextError {
     /// The text is outside the grammar.
     Grammar,
-    /// There was no memory for a copy of it.
+    /// There was no memory for a copy of it. It is of the grammar.
     NoMemory,
 }
 
 /// A file's name: `/` and a name, once or more, 255 bytes at most.
-#[derive(Drop)]
+#[derive(Drop, PartialEq, Eq, PartialOrd, Ord)]
 pub struct Path {
-    text: Vec<u8>,
+    text: Bytes,
 }
 
 impl Model for Path {
-    ghost use Rattle.std.specs.Prelude.{List, ℕ};
+    ghost use Rattle.std.specs.Prelude.{List, ℕ, IsTrue};
+    ghost use Rattle.dm_base.specs.Naming.{is_path_text};
 
     ghost Value = { List ℕ };
 
-    ghost view = { λ p. p.text.items };
+    ghost view = { λ p. p.text };
+
+    ghost invariant = { λ p. IsTrue (is_path_text p.text) };
+
+    ghost inverse = { λ text. record { text = text } };
 }
 
 impl Path {
     /// The path of this text, of which it takes a copy.
     pub fn of_bytes(alloc: Global, text: &[u8]) -> Result<Path, TextError>
-        ensures taken { IfOk result (λ path. (path ≡ text.now) × IsPath text.now) }
+        ensures taken { IfOk result (λ name. (name ≡ text.now) × IsPath text.now) }
         ensures grammar { IsErrOf result TextError.Grammar ↔ (IsPath text.now → ⊥) }
+
+        // Memory is asked only for a text of the grammar.
+        ensures memory { IsErrOf result TextError.NoMemory → IsPath text.now }
     {
         if !is_path(text) {
             return Err(TextError::Grammar);
         }
         match Vec::from_slice(alloc, text) {
-            Ok(text) => Ok(Path { text }),
+            Ok(copy) => Ok(Path {
+                text: Bytes::from_vec(copy),
+            }),
             Err(_) => Err(TextError::NoMemory),
         }
     }
@@ -57,88 +72,36 @@ impl Path {
         ensures { IfOk result (λ copy. copy ≡ self.now) }
     {
         Ok(Path {
-            text: Vec::from_slice(alloc, self.text.as_slice())?,
+            text: self.text.copied(alloc)?,
         })
     }
 
     /// The text.
     pub fn bytes(&self) -> &[u8]
-        ensures { result.now ≡ self.now }
+        ensures text { result.now ≡ self.now }
+        ensures grammar { IsPath result.now }
     {
         self.text.as_slice()
     }
 }
 
-// Paths are in the order of their texts.
-impl PartialEq for Path {
-    ghost use Rattle.std.specs.Prelude.{nat_eq};
-    ghost use Rattle.std.proofs.Common.{rules};
-    ghost use Rattle.std.specs.Cmp.Rules.{comparing};
-    ghost use lib.Pointwise.{pointwise};
-
-    ghost eq = { pointwise nat_eq };
-
-    ghost laws = { Prim.search (comparing, rules) };
-
-    fn eq(&self, other: &Path) -> bool {
-        self.text.as_slice() == other.text.as_slice()
-    }
-}
-
-impl Eq for Path {
-    ghost use Rattle.std.proofs.Common.{rules};
-    ghost use Rattle.std.specs.Cmp.Rules.{comparing};
-
-    ghost laws = { Prim.search (comparing, rules) };
-}
-
-impl PartialOrd for Path {
-    ghost use Rattle.std.proofs.Common.{rules};
-    ghost use Rattle.std.specs.Cmp.{partial_order_from_own_ties};
-    ghost use Rattle.std.specs.Cmp.Rules.{comparing};
-    ghost use Rattle.std.specs.Ordering.{nat_cmp, as_partial_cmp};
-    ghost use Rattle.std.specs.Cmp.Lexicographic.{slice_cmp};
-
-    ghost partial_cmp = { as_partial_cmp (slice_cmp nat_cmp) };
-
-    ghost laws = { partial_order_from_own_ties (Prim.search (comparing, rules)) (Prim.search (comparing, rules)) };
-
-    fn partial_cmp(&self, other: &Path) -> Option<Ordering> {
-        Some(self.cmp(other))
-    }
-}
-
-impl Ord for Path {
-    ghost use Rattle.std.proofs.Common.{rules};
-    ghost use Rattle.std.specs.Cmp.Rules.{comparing};
-    ghost use Rattle.std.specs.Ordering.{nat_cmp};
-    ghost use Rattle.std.specs.Cmp.Lexicographic.{slice_cmp};
-
-    ghost cmp = { slice_cmp nat_cmp };
-
-    ghost total = { Prim.search (comparing, rules) };
-
-    ghost matches_partial_cmp = { Prim.search (comparing, rules) };
-
-    ghost matches_eq = { Prim.search (comparing, rules) };
-
-    fn cmp(&self, other: &Path) -> Ordering {
-        self.text.as_slice().cmp(other.text.as_slice())
-    }
-}
-
-/// The name of a dump: 1 to 32 of the bytes that names are made of.
-#[derive(Drop)]
+/// The name of a dump, or of saved tables: 1 to 32 of the bytes that names are made of.
+#[derive(Drop, PartialEq, Eq, PartialOrd, Ord)]
 pub struct DumpName {
-    text: Vec<u8>,
+    text: Bytes,
 }
 
 impl Model for DumpName {
-    ghost use Rattle.std.specs.Prelude.{List, ℕ};
+    ghost use Rattle.std.specs.Prelude.{List, ℕ, IsTrue};
+    ghost use Rattle.dm_base.specs.Naming.{is_dump_name_text};
 
     ghost Value = { List ℕ };
 
-    ghost view = { λ p. p.text.items };
+    ghost view = { λ p. p.text };
+
+    ghost invariant = { λ p. IsTrue (is_dump_name_text p.text) };
+
+    ghost inverse = { λ text. record { text = text } };
 }
 
 impl DumpName {
@@ -146,12 +109,17 @@ impl DumpName {
     pub fn of_bytes(alloc: Global, text: &[u8]) -> Result<DumpName, TextError>
         ensures taken { IfOk result (λ name. (name ≡ text.now) × IsDumpName text.now) }
         ensures grammar { IsErrOf result TextError.Grammar ↔ (IsDumpName text.now → ⊥) }
+
+        // Memory is asked only for a text of the grammar.
+        ensures memory { IsErrOf result TextError.NoMemory → IsDumpName text.now }
     {
         if !is_dump_name(text) {
             return Err(TextError::Grammar);
         }
         match Vec::from_slice(alloc, text) {
-            Ok(text) => Ok(DumpName { text }),
+            Ok(copy) => Ok(DumpName {
+                text: Bytes::from_vec(copy),
+            }),
             Err(_) => Err(TextError::NoMemory),
         }
     }
@@ -161,78 +129,23 @@ impl DumpName {
         ensures { IfOk result (λ copy. copy ≡ self.now) }
     {
         Ok(DumpName {
-            text: Vec::from_slice(alloc, self.text.as_slice())?,
+            text: self.text.copied(alloc)?,
         })
     }
 
     /// The text.
     pub fn bytes(&self) -> &[u8]
-        ensures { result.now ≡ self.now }
+        ensures text { result.now ≡ self.now }
+        ensures grammar { IsDumpName result.now }
     {
         self.text.as_slice()
     }
 }
 
-// So are the names of dumps.
-impl PartialEq for DumpName {
-    ghost use Rattle.std.specs.Prelude.{nat_eq};
-    ghost use Rattle.std.proofs.Common.{rules};
-    ghost use Rattle.std.specs.Cmp.Rules.{comparing};
-    ghost use lib.Pointwise.{pointwise};
-
-    ghost eq = { pointwise nat_eq };
-
-    ghost laws = { Prim.search (comparing, rules) };
-
-    fn eq(&self, other: &DumpName) -> bool {
-        self.text.as_slice() == other.text.as_slice()
-    }
-}
-
-impl Eq for DumpName {
-    ghost use Rattle.std.proofs.Common.{rules};
-    ghost use Rattle.std.specs.Cmp.Rules.{comparing};
-
-    ghost laws = { Prim.search (comparing, rules) };
-}
-
-impl PartialOrd for DumpName {
-    ghost use Rattle.std.proofs.Common.{rules};
-    ghost use Rattle.std.specs.Cmp.{partial_order_from_own_ties};
-    ghost use Rattle.std.specs.Cmp.Rules.{comparing};
-    ghost use Rattle.std.specs.Ordering.{nat_cmp, as_partial_cmp};
-    ghost use Rattle.std.specs.Cmp.Lexicographic.{slice_cmp};
-
-    ghost partial_cmp = { as_partial_cmp (slice_cmp nat_cmp) };
-
-    ghost laws = { partial_order_from_own_ties (Prim.search (comparing, rules)) (Prim.search (comparing, rules)) };
-
-    fn partial_cmp(&self, other: &DumpName) -> Option<Ordering> {
-        Some(self.cmp(other))
-    }
-}
-
-impl Ord for DumpName {
-    ghost use Rattle.std.proofs.Common.{rules};
-    ghost use Rattle.std.specs.Cmp.Rules.{comparing};
-    ghost use Rattle.std.specs.Ordering.{nat_cmp};
-    ghost use Rattle.std.specs.Cmp.Lexicographic.{slice_cmp};
-
-    ghost cmp = { slice_cmp nat_cmp };
-
-    ghost total = { Prim.search (comparing, rules) };
-
-    ghost matches_partial_cmp = { Prim.search (comparing, rules) };
-
-    ghost matches_eq = { Prim.search (comparing, rules) };
-
-    fn cmp(&self, other: &DumpName) -> Ordering {
-        self.text.as_slice().cmp(other.text.as_slice())
-    }
-}
-
+// Whether the text is a path.
 fn is_path(text: &[u8]) -> bool
-    ensures { IsTrue result ↔ IsPath text.now }
+    ensures test { result ≡ is_path_text text.now }
+    ensures grammar { IsTrue result ↔ IsPath text.now }
 {
     let Some((first, rest)) = text.split_first() else {
         return false;
@@ -267,8 +180,10 @@ fn is_name_byte(byte: u8) -> bool
     byte.is_ascii_alphanumeric() || matches!(byte, b'.' | b'_' | b'-')
 }
 
+// Whether the text is the name of a dump.
 fn is_dump_name(text: &[u8]) -> bool
-    ensures { IsTrue result ↔ IsDumpName text.now }
+    ensures test { result ≡ is_dump_name_text text.now }
+    ensures grammar { IsTrue result ↔ IsDumpName text.now }
 {
     if text.is_empty() {
         return false;

@@ -18,6 +18,28 @@ fn identifiers_print_as_32_digits(rt: HostRuntime) {
 }
 
 #[test]
+fn identifiers_are_read_as_they_print(rt: HostRuntime) {
+    let texts: [&[u8]; 3] = [
+        b"00000000000000010000000000000001",
+        b"00000000000000017fffffffffffffff",
+        b"ffffffffffffffffffffffffffffffff",
+    ];
+    let values = [Bfid::of(1, 1), Bfid::of(1, NUMBER_LIMIT), Bfid(u128::MAX)];
+    for (text, value) in texts.iter().zip(values) {
+        assert_eq!(rt; Bfid::of_digits(text), Some(value));
+    }
+    let others: [&[u8]; 4] = [
+        b"",
+        b"0000000000000001000000000000000",
+        b"000000000000000100000000000000001",
+        b"00000000000000017FFFFFFFFFFFFFFF",
+    ];
+    for text in others {
+        assert_eq!(rt; Bfid::of_digits(text), None);
+    }
+}
+
+#[test]
 fn paths_are_taken_by_their_grammar(rt: HostRuntime) -> Result<(), Fail> {
     let texts: [&[u8]; 3] = [b"/a", b"/g/0001", b"/A.z_0-9/b"];
     for text in texts {
@@ -31,6 +53,53 @@ fn paths_are_taken_by_their_grammar(rt: HostRuntime) -> Result<(), Fail> {
         let refused = matches!(Path::of_bytes(rt.alloc(), text), Err(TextError::Grammar));
         assert!(rt; refused);
     }
+    Ok(())
+}
+
+#[test]
+fn the_longest_path_has_255_bytes(rt: HostRuntime) -> Result<(), Fail> {
+    let mut text = vec![in rt.alloc(); b'a'; 256]?;
+    text[0] = b'/';
+    let whole = text.as_slice();
+    match Path::of_bytes(rt.alloc(), whole.split_at(255).0) {
+        Ok(path) => assert_eq!(rt; path.bytes().len(), 255),
+        Err(error) => assert_eq!(rt; error, TextError::NoMemory, "with ample memory"),
+    }
+    let refused = matches!(Path::of_bytes(rt.alloc(), whole), Err(TextError::Grammar));
+    assert!(rt; refused);
+    Ok(())
+}
+
+#[test]
+fn names_and_findings_are_in_the_order_of_their_bytes(rt: HostRuntime) -> Result<(), Fail> {
+    let path = |text: &[u8]| Path::of_bytes(rt.alloc(), text)
+        .ok()
+        .ok_or("there is memory");
+    let first = Finding::Gone {
+        path: path(b"/a/b")?,
+        bfid: Bfid(2),
+    };
+    let second = Finding::Gone {
+        path: path(b"/b")?,
+        bfid: Bfid(1),
+    };
+    let by_group = Finding::NoCopy {
+        group: GroupId(2),
+        bfid: Bfid(9),
+    };
+    assert!(rt; path(b"/a")? < path(b"/a/b")?);
+    assert!(rt; first < second);
+    assert!(rt; by_group < first);
+    Ok(())
+}
+
+#[test]
+fn a_prefix_is_a_slash_or_a_path(rt: HostRuntime) -> Result<(), Fail> {
+    let below = Path::of_bytes(rt.alloc(), b"/a")
+        .ok()
+        .ok_or("there is memory")?;
+    assert_eq!(rt; Prefix::Root.bytes(), b"/".as_slice());
+    assert_eq!(rt; Prefix::Under(below).bytes(), b"/a".as_slice());
     Ok(())
 }
 

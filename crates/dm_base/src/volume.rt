@@ -1,4 +1,8 @@
 //! Volumes, the pieces of bitfiles on them, and the tokens of work on them.
+//!
+//! A volume has a version, which is its format: 1, or 2, in which each chunk has the SHA-256 of its
+//! bytes beside it. What is planned for a volume carries the volume's version, so that whoever writes
+//! it needs no look at the tables.
 
 ghost use Rattle.std.specs.Prelude.{◌≤◌};
 
@@ -36,6 +40,8 @@ pub struct Piece {
     /// The place of the part in the bitfile.
     pub offset: u64,
     pub len: u64,
+    /// The volume's version.
+    pub version: u8,
 }
 
 /// Room on volumes, kept for a bitfile until it is committed or given up.
@@ -58,6 +64,8 @@ pub struct Chunk {
     pub zone: u64,
     /// The place of the first of them on the volume.
     pub place: u64,
+    /// The SHA-256 of the bytes, on a volume of version 2.
+    pub sum: Option<[u8; 32]>,
 }
 
 /// The move of a chunk to another volume, with both volumes mounted.
@@ -70,12 +78,16 @@ pub struct MoveJob {
     pub to: Chunk,
     pub source: Mount,
     pub target: Mount,
+    /// The target's version.
+    pub version: u8,
 }
 
-/// The reuse of a volume that was freed, which is mounted.
+/// The reuse of a volume, which is mounted: one that was freed, or an empty one of an older version.
 pub struct ReuseJob {
     pub mount: Mount,
     pub next_epoch: u64,
+    /// The version that the volume gets.
+    pub version: u8,
 }
 
 /// Volumes that a merge is to empty, at most 16.
@@ -121,6 +133,37 @@ pub struct VolLine {
     pub end: u64,
     pub tip: u64,
     pub live: u64,
+    pub version: u8,
+}
+
+/// What an audit and saved tables need of a volume.
+#[derive(Clone, Copy, Debug, PartialEq, Eq)]
+pub struct VolFact {
+    pub vsn: Vsn,
+    pub epoch: u64,
+    /// The place behind the last zone that was committed.
+    pub end: u64,
+    pub version: u8,
+}
+
+/// A bitfile of a group, with its chunks by offset.
+#[derive(Drop)]
+pub struct BitRow {
+    pub bfid: Bfid,
+    /// The length of the bitfile.
+    pub total: u64,
+    pub chunks: Listed<Chunk>,
+}
+
+/// The tables of a group: its volumes by serial number, its bitfiles by identifier.
+#[derive(Drop)]
+pub struct GroupRows {
+    /// The group's time.
+    pub time: Secs,
+    /// The size of each volume.
+    pub size: u64,
+    pub volumes: Listed<VolFact>,
+    pub files: Listed<BitRow>,
 }
 
 /// How a read goes on at an offset of a bitfile.

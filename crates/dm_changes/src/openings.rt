@@ -3,8 +3,9 @@
 ghost use Rattle.std.specs.Prelude.{◌≡◌, IfOk};
 ghost use Rattle.std.specs.FinMap as map;
 ghost use Rattle.dm_rules.specs.Numbers.{narrowed};
-ghost use Rattle.dm_rules.specs.Plan.{zone_end as zone_end_of};
-ghost use Rattle.dm_rules.specs.Zone.{chunk_count as chunk_count_of, chunk_header};
+ghost use Rattle.dm_parts.specs.FirstVersion.{zone_end as zone_end_of};
+ghost use Rattle.dm_rules.specs.Zone.{chunk_count as chunk_count_of};
+ghost use Rattle.dm_rules.specs.Version.{first_version};
 ghost use Rattle.dm_tables.specs.Rows.{adjust};
 ghost use Rattle.dm_changes.specs.Changes.{at_each, copy_opened, mount_opened as mount_opened_of, reservation_opened as reservation_opened_of, tips_moved as tips_moved_of, worker_or};
 
@@ -13,7 +14,7 @@ use dm_base::{Bfid, Bytes, GroupId, NoMemory, Piece};
 use dm_parts::{
     CopyReservation, CopyState, Group, MountState, Mounted, Recall, Reserved, Side, Worker,
 };
-use dm_rules::{CHUNK_HEADER, ZONE_HEADER};
+use dm_rules::{CHUNK_FIELDS, ZONE_HEADER};
 use dm_tables::{Numbers, Texts};
 use std::alloc::Global;
 
@@ -200,12 +201,12 @@ fn tips_moved(
 
 // The place behind the zone of a piece.
 fn zone_end(chunk: u64, piece: &Piece) -> u64
-    ensures { result ≡ narrowed (zone_end_of chunk_header chunk piece.now) }
+    ensures { result ≡ narrowed (zone_end_of first_version chunk piece.now) }
 {
     let count = chunk_count(chunk, piece.len);
     let end = u128::from(piece.zone)
         + u128::from(ZONE_HEADER)
-        + u128::from(CHUNK_HEADER) * u128::from(count)
+        + u128::from(CHUNK_FIELDS) * u128::from(count)
         + u128::from(piece.len);
     end.min(u128::from(u64::MAX)) as u64
 }

@@ -1,35 +1,16 @@
 -- What a call of a bay over memory does to its disk.
-use Rattle.std.proofs.Common.{◌≡◌, ◌≢◌, inl, inr, ⊎_elim, ℕ, ◌+◌, ◌-◌, ◌≤◌, ◌^◌, List, ◌∷◌, length, take, drop, Vec, refl, sym, ◌∙◌, ap, subst, arith}
-use Rattle.std.proofs.lemmas.Bool.{cases_eq}
+use Rattle.std.proofs.Common.{◌≡◌, ◌≢◌, inl, inr, ⊎_elim, ℕ, ◌+◌, ◌-◌, ◌≤◌, ◌^◌, Bool, true, false, IsTrue, if◌then◌else◌, List, [], ◌∷◌, length, take, drop, Vec, refl, sym, ◌∙◌, ap, subst, arith}
+use Rattle.std.proofs.lemmas.Bool.{cases_Bool, cases_eq}
 use Rattle.std.proofs.lemmas.Bool.Decides.{nat_tests}
-use Rattle.std.proofs.lemmas.List.{drop-drop, take_all}
+use Rattle.std.proofs.lemmas.List.{drop-drop}
 use Rattle.std.specs.declared.alloc.Global.{Global}
 use Rattle.dm_host.specs.declared.change.Change.{Change}
 use Rattle.dm_host.specs.declared.change.Change.TheVariants.{Wrote, Synced}
-use Rattle.dm_host.specs.Disk.{Disk, Image, Torn, Written, Same, Only}
+use Rattle.dm_host.specs.Disk.{Image, Torn, Written, Same, Only}
 use Rattle.dm_host.specs.Works.{Works, File, Follows}
+use Rattle.dm_host.proofs.Moments.{idle, torn_still}
 use Rattle.dm_host.proofs.Overlay.{written, back}
-use Rattle.dm_host.specs.Past.{lengthened, overlaid, restored, undone, Reaches, LeftOf, LeftSince, disk_from, Puts}
-
--- nothing happened
-pub idle : (step : List ℕ → List ℕ → Type 0) → ((l : List ℕ) → step l l) → (f : ℕ) (d : Disk) → Works (File f) d d (Follows step f d)
-idle step still f d = record {
-  told = refl;
-  others = λ g not. record { seen = refl; fewer = λ c left. left; more = λ c left. left };
-  now = λ x here. (x f, here f refl, still (x f));
-  later = omega arith;
-  moments = λ t x le left. inl left;
-  keeps = λ t x le left. left;
-}
-
-pub torn_still : (place n : ℕ) (l : List ℕ) → Torn place n l l
-torn_still place n l = record {
-  before = λ le. refl;
-  past_end = λ le. take_all (length l) l (omega arith);
-  after = refl;
-  no_shorter = omega arith;
-  no_longer = omega arith;
-}
+use Rattle.dm_host.specs.Past.{lengthened, overlaid, restored, undone, Reaches, LeftOf, LeftSince, shown, shown_told, disk_from, Puts}
 
 -- a longer range says less
 pub torn_longer : (place m n : ℕ) (old new : List ℕ) → m ≤ n → Torn place m old new → Torn place n old new
@@ -57,20 +38,23 @@ module _ (log : List Change) (files : Image) (f : ℕ) where
   synced_fewer g not c (inr (inl here)) = absurd (not here.0)
   synced_fewer g not c (inr (inr other)) = inr other.1
 
-  pub synced : Works (File f) (disk_from log files) (disk_from (Synced f ∷ log) files) (Follows Same f (disk_from log files))
-  synced = record {
+  pub synced : (told : ℕ → Bool) → Works (File f) (disk_from told log files) (disk_from told (Synced f ∷ log) files) (Follows Same f (disk_from told log files))
+  synced told = record {
     told = refl;
     others = λ g not. record {
       seen = refl;
-      fewer = synced_fewer g not;
-      more = λ c left. ⊎_elim (λ now. inl now) (λ past. inr (inr (not, past))) left;
+      fewer = λ c left is. synced_fewer g not c (left is);
+      more = λ c left is. ⊎_elim (λ now. inl now) (λ past. inr (inr (not, past))) (left is);
     };
-    now = λ x here. (files f, inl refl, synced_only (x f) (here f refl));
+    now = λ x here. (x f, λ is. inl (synced_only (x f) (here f refl is)), refl);
     later = omega arith;
     moments = λ t x le left.
-        ⊎_elim (λ now. inr ((files f, inl refl, synced_only (x f) (now f)), λ g not. synced_fewer g not (x g) (now g))) (λ past. inl past.1) left;
+        ⊎_elim (λ now. inr ((x f, λ is. inl (synced_only (x f) (now f is)), refl), λ g not is. synced_fewer g not (x g) (now g is))) (λ past. inl past.1) left;
     keeps = λ t x le left. inr (le, left);
   }
+
+  pub synced_shown : (told : ℕ → Bool) → IsTrue (told f) → Only (shown told files f) (λ c. IsTrue (told f) → LeftOf (Synced f ∷ log) files f c)
+  synced_shown told is c left = synced_only c (left is) ∙ sym (shown_told told files f is)
 
 module _ (file place : ℕ) (bytes : List ℕ) (log : List Change) (files : Image) (log' : List Change) (files' : Image) (p : Puts file place bytes log files log' files') where
   abbrev change : Change
@@ -110,20 +94,32 @@ module _ (file place : ℕ) (bytes : List ℕ) (log : List Change) (files : Imag
         (past.0, inr (subst (λ (l : List ℕ). Reaches file log l past.0) p.back past.1), torn_longer place (length bytes) n past.0 c long past.2)
     wrote_here c (inr (inr other)) = absurd (other.0 refl)
 
-    wrote : Works (File file) (disk_from log files) (disk_from (change ∷ log) files') (Follows (Torn place n) file (disk_from log files))
-    wrote = record {
-      told = refl;
-      others = λ g not. record { seen = p.others g not; fewer = wrote_fewer g not; more = wrote_more g not };
-      now = λ x here. wrote_here (x file) (here file refl);
-      later = omega arith;
-      moments = λ t x le left.
-          ⊎_elim (λ now. inr (wrote_here (x file) (now file), λ g not. wrote_fewer g not (x g) (now g)))
-          (λ past. inl (subst (λ (was : Image). LeftSince log was t x) undone_is past.1)) left;
-      keeps = λ t x le left. inr (le, subst (λ (was : Image). LeftSince log was t x) (sym undone_is) left);
-    }
+    module _ (told : ℕ → Bool) where
+      wrote_follows : (x : Image) → (IsTrue (told file) → LeftOf (change ∷ log) files' file (x file)) → Follows (Torn place n) file (disk_from told log files) x
+      wrote_follows x left = elim (cases_Bool (told file)) [
+        | inl is ↦ let before = wrote_here (x file) (left is) in (before.0, λ told. before.1, before.2)
+        | inr not ↦ (x file, λ is. absurd (let e : true ≡ false = sym is ∙ not in cc (e)), torn_still place n (x file))
+      ]
 
-    pub puts_works : Works (File file) (disk_from log files) (disk_from log' files') (Follows (Torn place n) file (disk_from log files))
-    puts_works = subst (λ (l : List Change). Works (File file) (disk_from log files) (disk_from l files') (Follows (Torn place n) file (disk_from log files))) (sym p.noted) wrote
+      wrote : Works (File file) (disk_from told log files) (disk_from told (change ∷ log) files') (Follows (Torn place n) file (disk_from told log files))
+      wrote = record {
+        told = refl;
+        others = λ g not. record {
+          seen = ap (λ (l : List ℕ). if told g then l else []) (p.others g not);
+          fewer = λ c left is. wrote_fewer g not c (left is);
+          more = λ c left is. wrote_more g not c (left is);
+        };
+        now = λ x here. wrote_follows x (here file refl);
+        later = omega arith;
+        moments = λ t x le left.
+            ⊎_elim (λ now. inr (wrote_follows x (now file), λ g not is. wrote_fewer g not (x g) (now g is)))
+            (λ past. inl (subst (λ (was : Image). LeftSince told log was t x) undone_is past.1)) left;
+        keeps = λ t x le left. inr (le, subst (λ (was : Image). LeftSince told log was t x) (sym undone_is) left);
+      }
+
+      pub puts_works : Works (File file) (disk_from told log files) (disk_from told log' files') (Follows (Torn place n) file (disk_from told log files))
+      puts_works =
+          subst (λ (l : List Change). Works (File file) (disk_from told log files) (disk_from told l files') (Follows (Torn place n) file (disk_from told log files))) (sym p.noted) wrote
 
     pub puts_torn : Torn place n (files file) (files' file)
     puts_torn = torn_longer place (length bytes) n (files file) (files' file) long p.written.torn
@@ -155,9 +151,10 @@ puts_from file place bytes old before log log' files grown files' is copied same
     }
 
 -- a call that left files and log as they were
-module _ (log log' : List Change) (files files' : Image) (same : files' ≡ files) (kept : log' ≡ log) where
-  pub unchanged : (step : List ℕ → List ℕ → Type 0) → ((l : List ℕ) → step l l) → (f : ℕ) → Works (File f) (disk_from log files) (disk_from log' files') (Follows step f (disk_from log files))
+module _ (told : ℕ → Bool) (log log' : List Change) (files files' : Image) (same : files' ≡ files) (kept : log' ≡ log) where
+  pub unchanged : (step : List ℕ → List ℕ → Type 0) → ((l : List ℕ) → step l l) → (f : ℕ)
+      → Works (File f) (disk_from told log files) (disk_from told log' files') (Follows step f (disk_from told log files))
   unchanged step still f =
-      subst (λ (fs : Image). Works (File f) (disk_from log files) (disk_from log' fs) (Follows step f (disk_from log files))) (sym same)
-      (subst (λ (l : List Change). Works (File f) (disk_from log files) (disk_from l files) (Follows step f (disk_from log files))) (sym kept)
-      (idle step still f (disk_from log files)))
+      subst (λ (fs : Image). Works (File f) (disk_from told log files) (disk_from told log' fs) (Follows step f (disk_from told log files))) (sym same)
+      (subst (λ (l : List Change). Works (File f) (disk_from told log files) (disk_from told l files) (Follows step f (disk_from told log files))) (sym kept)
+      (idle step still f (disk_from told log files)))

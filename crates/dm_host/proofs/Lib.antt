@@ -5,3 +5,4 @@ mod Contents
 mod Overlay
 mod Kept
 mod Either
+mod Rotting

@@ -1,6 +1,7 @@
 -- How one work on a disk follows another.
-use Rattle.std.proofs.Common.{◌≡◌, inl, inr, ⊎_elim, ℕ, List, sym, ◌∙◌, subst, arith}
-use Rattle.dm_host.specs.Disk.{Disk, Image, MayLeave, Settled, Same}
+use Rattle.std.proofs.Common.{◌≡◌, refl, inl, inr, ⊎_elim, ℕ, Bool, IsTrue, List, length, sym, ◌∙◌, subst, arith}
+use Rattle.std.proofs.lemmas.List.{take_all}
+use Rattle.dm_host.specs.Disk.{Disk, Image, MayLeave, Settled, Same, Tells, Torn}
 use Rattle.dm_host.specs.Works.{Works, Elsewhere, File, Every, Follows}
 
 -- less is said of what is left
@@ -73,3 +74,38 @@ pub fewer_after : (f : ℕ) (a b : Disk) → Works (File f) a b (Follows Same f 
 fewer_after f a b w c left =
     let follows : Follows Same f a (λ g. c) = w.now (λ g. c) (λ g is. subst (λ (h : ℕ). b.may_leave h c) (sym is) left) in
     subst (λ (l : List ℕ). a.may_leave f l) (sym follows.2) follows.1
+
+-- a call that changes nothing, and then a step on the file
+pub same_before : (step : List ℕ → List ℕ → Type 0) → ((l : List ℕ) → step l l) → (f : ℕ) (a b c : Disk) → Works (File f) a b (Follows Same f a)
+    → Works (File f) b c (Follows step f b) → Works (File f) a c (Follows step f a)
+same_before step still f a b c first second =
+    and_then (File f) a b c (Follows step f a)
+    (weaker (File f) a b (Follows Same f a) (Follows step f a) first
+    (λ x follows. (follows.0, follows.1, subst (λ (l : List ℕ). step follows.0 l) (sym follows.2) (still follows.0))))
+    (weaker (File f) b c (Follows step f b) (Follows step f a) second
+    (λ x follows. (follows.0, fewer_after f a b first follows.0 follows.1, follows.2)))
+
+-- a file that was told is told
+pub still_told : (mine : ℕ → Type 0) (a b : Disk) (P : Image → Type 0) → Works mine a b P → (f : ℕ) → Tells a f → Tells b f
+still_told mine a b P w f is = subst (λ (told : ℕ → Bool). IsTrue (told f)) (sym w.told) is
+
+-- A call that did nothing. With `torn_still` it serves a write of a device that tells nothing.
+pub idle : (step : List ℕ → List ℕ → Type 0) → ((l : List ℕ) → step l l) → (f : ℕ) (d : Disk) → Works (File f) d d (Follows step f d)
+idle step still f d = record {
+  told = refl;
+  others = λ g not. record { seen = refl; fewer = λ c left. left; more = λ c left. left };
+  now = λ x here. (x f, here f refl, still (x f));
+  later = omega arith;
+  moments = λ t x le left. inl left;
+  keeps = λ t x le left. left;
+}
+
+-- a write that did nothing
+pub torn_still : (place n : ℕ) (l : List ℕ) → Torn place n l l
+torn_still place n l = record {
+  before = λ le. refl;
+  past_end = λ le. take_all (length l) l (omega arith);
+  after = refl;
+  no_shorter = omega arith;
+  no_longer = omega arith;
+}

@@ -1,17 +1,31 @@
 -- Numbered files, what a crash may leave of them, and what a call does to one.
-use Rattle.std.specs.Prelude.{◌≡◌, ℕ, ◌+◌, ◌≤◌, max, Bool, List, ◌++◌, length, take, drop, replicate}
+use Rattle.std.specs.Prelude.{◌≡◌, ℕ, ◌+◌, ◌≤◌, max, Bool, false, IsTrue, List, [], ◌++◌, length, take, drop, replicate}
 
 -- the bytes of each file
 abbrev pub Image : Type 0
 Image = ℕ → List ℕ
 
--- Where `told` is false, nothing is known of the bytes, and the other parts say nothing.
+-- A file that isn't told may hold anything: of it the parts say nothing.
 pub record Disk : Type 1 where
-  pub told : Bool  -- what the files hold is known
+  pub told : ℕ → Bool  -- what this file holds, and what a crash may do to it, is known
   pub seen : Image  -- what a read gives
   pub may_leave : ℕ → List ℕ → Type 0  -- what a crash now may leave of a file
   pub moment : ℕ  -- now, as a number that doesn't fall
   pub left_since : ℕ → Image → Type 0  -- what a crash at some moment since that one might have left
+
+-- of a device that tells of no file
+abbrev pub untold : Disk
+untold = record {
+  told = λ g. false;
+  seen = λ g. [];
+  may_leave = λ g c. Unit {0};
+  moment = 0;
+  left_since = λ t x. Unit {0};
+}
+
+-- what this file holds is known
+abbrev pub Tells : Disk → ℕ → Type 0
+Tells d g = IsTrue (d.told g)
 
 -- the files are independent: each may be left by itself
 abbrev pub MayLeave : Disk → Image → Type 0

@@ -1,10 +1,11 @@
 -- Which calls fail, and what counts of calls and faults come to.
-use Rattle.std.specs.Prelude.{ℕ, ◌+◌, min, Bool, false, ◌||◌, List, Option, Some, None, nat_lt, ◌==◌}
+use Rattle.std.specs.Prelude.{ℕ, Bool, false, ◌||◌, List, Option, Some, None, nat_lt, ◌==◌}
 use Rattle.std.specs.List.{list_any}
+use Rattle.dm_host.specs.Count.{raised}
 
 -- one more, up to the last value of a u64
 abbrev pub counted : ℕ → ℕ
-counted n = min (n + 1) 18446744073709551615
+counted n = raised 1 n
 
 -- the number is one of these
 abbrev pub is_numbered : List ℕ → ℕ → Bool

@@ -5,4 +5,5 @@ pub mod Disk
 pub mod Works
 pub mod Faults
 pub mod Past
+pub mod Rot
 pub mod MemoryBay

@@ -1,7 +1,7 @@
 -- The log of a bay over memory: what each write overwrote, and which files were synced. The files as they are now
 -- are the truth; what they were before is computed backwards. A log stands here with its newest change first.
-use Rattle.std.specs.Prelude.{◌≡◌, ◌≢◌, ◌⊎◌, ℕ, zero, suc, ◌+◌, ◌-◌, ◌≤◌, true, List, [], ◌∷◌, ◌++◌, length, take, drop, replicate, Vec, ◌==◌, if◌then◌else◌}
-use Rattle.std.proofs.Common.{inl, inr, arith}
+use Rattle.std.specs.Prelude.{◌≡◌, ◌≢◌, ◌⊎◌, ℕ, zero, suc, ◌+◌, ◌-◌, ◌≤◌, ◌^◌, Bool, IsTrue, List, [], ◌∷◌, ◌++◌, length, take, drop, replicate, Vec, ◌==◌, if◌then◌else◌}
+use Rattle.std.proofs.Common.{inl, inr, sym, ap, subst, arith}
 use Rattle.std.specs.declared.alloc.Global.{Global}
 use Rattle.dm_host.specs.declared.change.Change.{Change}
 use Rattle.dm_host.specs.declared.change.Change.TheVariants.{Wrote, Synced}
@@ -37,22 +37,32 @@ Reaches f (Wrote file place len end before ∷ earlier) now c =
     ((f ≡ file) × ((d : List ℕ) × Reaches f earlier (restored place end before.items now) d × Torn place len d c)) ⊎ ((f ≢ file) × Reaches f earlier now c)
 Reaches f (Synced file ∷ earlier) now c = ((f ≡ file) × (c ≡ now)) ⊎ ((f ≢ file) × Reaches f earlier now c)
 
+-- what a crash may leave of file f
 abbrev pub LeftOf : List Change → Image → ℕ → List ℕ → Type 0
 LeftOf log files f c = (c ≡ files f) ⊎ Reaches f log (files f) c
 
--- what a crash might have left when the log was at least t long
-abbrev pub LeftSince : List Change → Image → ℕ → Image → Type 0
-LeftSince [] files t x = (g : ℕ) → LeftOf [] files g (x g)
-LeftSince (change ∷ earlier) files t x =
-    ((g : ℕ) → LeftOf (change ∷ earlier) files g (x g)) ⊎ ((t ≤ length earlier) × LeftSince earlier (undone change files) t x)
+-- an image that a crash may leave: of a file that isn't told anything
+abbrev pub LeftNow : (ℕ → Bool) → List Change → Image → Image → Type 0
+LeftNow told log files x = (g : ℕ) → IsTrue (told g) → LeftOf log files g (x g)
 
-abbrev pub disk_from : List Change → Image → Disk
-disk_from log files = record {
-  told = true;
-  seen = files;
-  may_leave = LeftOf log files;
+-- what a crash might have left when the log was at least t long
+abbrev pub LeftSince : (ℕ → Bool) → List Change → Image → ℕ → Image → Type 0
+LeftSince told [] files t x = LeftNow told [] files x
+LeftSince told (change ∷ earlier) files t x =
+    LeftNow told (change ∷ earlier) files x ⊎ ((t ≤ length earlier) × LeftSince told earlier (undone change files) t x)
+
+-- the bytes of the files that are told
+abbrev pub shown : (ℕ → Bool) → Image → Image
+shown told files g = if told g then files g else []
+
+-- the disk of these files with this log, of which these are told
+abbrev pub disk_from : (ℕ → Bool) → List Change → Image → Disk
+disk_from told log files = record {
+  told = told;
+  seen = shown told files;
+  may_leave = λ g c. IsTrue (told g) → LeftOf log files g c;
   moment = length log;
-  left_since = LeftSince log files;
+  left_since = LeftSince told log files;
 }
 
 -- a write of these bytes to a file, and its note in the log
@@ -63,11 +73,20 @@ pub record Puts (file place : ℕ) (bytes : List ℕ) (log : List Change) (files
   pub written : Written place bytes (files file) (files' file)
   pub others : (g : ℕ) → g ≢ file → files' g ≡ files g
 
-pub now_counts : (log : List Change) (files : Image) (t : ℕ) (x : Image) → ((g : ℕ) → LeftOf log files g (x g)) → LeftSince log files t x
-now_counts [] files t x now = now
-now_counts (change ∷ earlier) files t x now = inl now
+pub now_counts : (told : ℕ → Bool) (log : List Change) (files : Image) (t : ℕ) (x : Image) → LeftNow told log files x → LeftSince told log files t x
+now_counts told [] files t x now = now
+now_counts told (change ∷ earlier) files t x now = inl now
 
-pub now_alone : (log : List Change) (files : Image) (x : Image) → LeftSince log files (length log) x → (g : ℕ) → LeftOf log files g (x g)
-now_alone [] files x now = now
-now_alone (change ∷ earlier) files x (inl now) = now
-now_alone (change ∷ earlier) files x (inr past) = absurd (omega (arith, past.0))
+pub now_alone : (told : ℕ → Bool) (log : List Change) (files : Image) (x : Image) → LeftSince told log files (length log) x → LeftNow told log files x
+now_alone told [] files x now = now
+now_alone told (change ∷ earlier) files x (inl now) = now
+now_alone told (change ∷ earlier) files x (inr past) = absurd (omega (arith, past.0))
+
+pub shown_told : (told : ℕ → Bool) (files : Image) (g : ℕ) → IsTrue (told g) → shown told files g ≡ files g
+shown_told told files g is = ap (λ (b : Bool). if b then files g else []) is
+
+pub shown_may_stay : (told : ℕ → Bool) (log : List Change) (files : Image) (g : ℕ) → IsTrue (told g) → LeftOf log files g (shown told files g)
+shown_may_stay told log files g is = inl (shown_told told files g is)
+
+pub shown_bounded : (told : ℕ → Bool) (files : Image) (g : ℕ) → IsTrue (told g) → length (files g) ≤ 2 ^ 62 → length (shown told files g) ≤ 2 ^ 62
+shown_bounded told files g is small = subst (λ (l : List ℕ). length l ≤ 2 ^ 62) (sym (shown_told told files g is)) small

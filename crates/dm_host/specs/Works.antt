@@ -2,7 +2,7 @@
 use Rattle.std.specs.Prelude.{◌≡◌, ◌⊎◌, ℕ, ◌≤◌, List}
 use Rattle.dm_host.specs.Disk.{Disk, Image}
 
--- nothing happened to this file
+-- nothing happened to this file, as far as it is told
 pub record Stays (g : ℕ) (old new : Disk) : Type 0 where
   pub seen : new.seen g ≡ old.seen g
   pub fewer : (c : List ℕ) → new.may_leave g c → old.may_leave g c

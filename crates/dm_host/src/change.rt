@@ -1,5 +1,5 @@
 //! The log of a bay over memory: what each call changed.
-ghost use Rattle.std.specs.Prelude.{◌≡◌, ◌+◌, ◌<◌, ◌≤◌, ◌^◌, ◌↔◌, ◌∷◌, ℕ, length, take, reverse, vec_len, vec_capacity, OnOk, OnErr, IsTrue};
+ghost use Rattle.std.specs.Prelude.{◌≡◌, ◌+◌, ◌<◌, ◌≤◌, ◌^◌, ◌↔◌, ◌∷◌, ℕ, Bool, length, take, reverse, vec_len, vec_capacity, OnOk, OnErr, IsTrue};
 ghost use Rattle.dm_host.specs.Disk.{Torn, Written};
 ghost use Rattle.dm_host.specs.Past.{contents, disk_from, Puts};
 ghost use Rattle.dm_host.specs.Works.{Works, File, Follows};
@@ -93,8 +93,8 @@ pub fn put_front(
     ensures torn { Torn place (length bytes.now) (contents files.old.items file) (contents files.new.items file) }
     ensures limit { OnOk result (place + length bytes.now ≤ 2 ^ 62) }
     ensures bounded { ((g : ℕ) → length (contents files.old.items g) ≤ 2 ^ 62) → (g : ℕ) → length (contents files.new.items g) ≤ 2 ^ 62 }
-    ensures works { Works (File file) (disk_from (reverse log.old.items) (contents files.old.items)) (disk_from (reverse log.new.items) (contents files.new.items))
-        (Follows (Torn place (length bytes.now)) file (disk_from (reverse log.old.items) (contents files.old.items))) }
+    ensures works { (told : ℕ → Bool) → Works (File file) (disk_from told (reverse log.old.items) (contents files.old.items)) (disk_from told (reverse log.new.items) (contents files.new.items))
+        (Follows (Torn place (length bytes.now)) file (disk_from told (reverse log.old.items) (contents files.old.items))) }
 {
     if !ends_within(place, bytes.len()) {
         return Err(Failed);

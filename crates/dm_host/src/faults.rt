@@ -1,7 +1,7 @@
 //! Which calls of a bay over memory fail, and how that is counted.
-ghost use Rattle.std.specs.Prelude.{◌≡◌, ◌⊎◌, ◌↔◌, ◌/◌, false, is_ok, if◌then◌else◌, IsErr, IsOk, IsTrue, OnOk};
+ghost use Rattle.std.specs.Prelude.{◌≡◌, ◌⊎◌, ◌↔◌, ◌/◌, false, if◌then◌else◌, IsErr, IsOk, IsTrue, OnOk};
 ghost use Rattle.dm_host.specs.Count.{HasCause};
-ghost use Rattle.dm_host.specs.Faults.{counted, is_blown, is_failing};
+ghost use Rattle.dm_host.specs.Faults.{is_blown, is_failing};
 
 use crate::Failed;
 
@@ -21,20 +21,12 @@ pub fn fails(numbers: &[u64], fuse: Option<u64>, number: u64) -> bool
     numbers.contains(&number) || blown(fuse, number)
 }
 
-// Counts a call, and a fault where it fails.
-pub fn begin(
-    calls: &mut u64,
-    count: &mut u64,
-    numbers: &[u64],
-    fuse: Option<u64>,
-) -> Result<(), Failed>
-    ensures calls { calls.new ≡ counted calls.old }
-    ensures fails { IsErr result ↔ IsTrue (is_failing numbers.now fuse calls.new) }
-    ensures count { count.new ≡ (if is_ok result then count.old else counted count.old) }
+// Counts a fault where the call of this number is one that fails.
+pub fn begin(number: u64, count: &mut u64, numbers: &[u64], fuse: Option<u64>) -> Result<(), Failed>
+    ensures fails { IsErr result ↔ IsTrue (is_failing numbers.now fuse number) }
     ensures cause { HasCause count.old count.new result }
 {
-    *calls = calls.saturating_add(1);
-    if fails(numbers, fuse, *calls) {
+    if fails(numbers, fuse, number) {
         *count = count.saturating_add(1);
         return Err(Failed);
     }
@@ -53,7 +45,6 @@ pub fn answer(failing: bool, put: Result<(), Failed>, count: &mut u64) -> Result
     ensures put { OnOk result (IsOk put) }
     ensures failing { OnOk result (failing ≡ false) }
     ensures err { IsErr result ↔ (IsTrue failing ⊎ IsErr put) }
-    ensures count { count.new ≡ (if is_ok result then count.old else counted count.old) }
     ensures cause { HasCause count.old count.new result }
 {
     if failing || put.is_err() {

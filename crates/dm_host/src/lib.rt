@@ -1,8 +1,8 @@
 //! The outside as the rest sees it: streams of bytes, a clock, and a bay of numbered files that a crash may
 //! tear. Each is a trait, with an implementation over memory whose faults can be chosen.
 //!
-//! Each trait but the clock has a count of faults that never falls, and a call answers `Failed` only where the
-//! count rose in that call or stands at its last value. What an object holds is a ghost member, which the
+//! Each trait but the clock has a count of faults. A call that answers `Failed` adds one to it, up to its last value,
+//! and any other call leaves it: so faults are counted exactly. What an object holds is a ghost member, which the
 //! implementations over memory tell; one over a file, a socket or a terminal need not.
 #![tactic(auto)]
 
@@ -15,6 +15,7 @@ mod memory_bay;
 mod memory_clock;
 mod memory_sink;
 mod memory_source;
+mod rot;
 mod sink;
 mod source;
 
@@ -27,7 +28,7 @@ pub use memory_source::MemSource;
 pub use sink::Sink;
 pub use source::Source;
 
-/// The outside failed. The cause is known to the object alone, which counted it.
+/// The outside failed. The cause is known to the object alone, which counted it once.
 #[derive(Clone, Copy, Debug, PartialEq, Eq)]
 pub struct Failed;
 

@@ -1,5 +1,5 @@
 //! A sink over memory, whose faults are chosen by the numbers of its calls.
-ghost use Rattle.std.specs.Prelude.{◌≡◌, ◌⊎◌, ◌≤◌, Some, length, min, is_ok, if◌then◌else◌, IfOk, IsErr, IsTrue};
+ghost use Rattle.std.specs.Prelude.{◌≡◌, ◌⊎◌, ◌≤◌, Some, length, min, IfOk, IsErr, IsTrue};
 ghost use Rattle.dm_host.specs.Count.{HasCause};
 ghost use Rattle.dm_host.specs.Faults.{counted, is_numbered};
 ghost use Rattle.dm_host.specs.Stream.{Takes};
@@ -38,7 +38,6 @@ impl Sink for MemSink {
         ensures choice { (self.new.piece ≡ self.old.piece) × (self.new.fail.items ≡ self.old.fail.items) }
         ensures calls { self.new.calls ≡ counted self.old.calls }
         ensures fails { IsTrue (is_numbered self.old.fail.items self.new.calls) → IsErr result }
-        ensures count { self.new.count ≡ (if is_ok result then self.old.count else counted self.old.count) }
     {
         self.calls = self.calls.saturating_add(1);
         let n = self.piece.min(bytes.len());

@@ -1,5 +1,5 @@
 //! A source over memory, whose faults are chosen by the numbers of its calls.
-ghost use Rattle.std.specs.Prelude.{◌≡◌, ◌↔◌, ◌+◌, ◌-◌, ◌≤◌, Some, ◌++◌, length, take, drop, min, max, is_ok, if◌then◌else◌, IfOk, IsErr, IsTrue};
+ghost use Rattle.std.specs.Prelude.{◌≡◌, ◌↔◌, ◌+◌, ◌-◌, ◌≤◌, Some, ◌++◌, length, take, drop, min, max, IfOk, IsErr, IsTrue};
 ghost use Rattle.dm_host.specs.Count.{HasCause};
 ghost use Rattle.dm_host.specs.Faults.{counted, is_numbered};
 ghost use Rattle.dm_host.specs.Stream.{Reads};
@@ -37,7 +37,6 @@ impl Source for MemSource {
         ensures choice { (self.new.piece ≡ self.old.piece) × (self.new.fail.items ≡ self.old.fail.items) }
         ensures calls { self.new.calls ≡ counted self.old.calls }
         ensures fails { IsErr result ↔ IsTrue (is_numbered self.old.fail.items self.new.calls) }
-        ensures count { self.new.count ≡ (if is_ok result then self.old.count else counted self.old.count) }
     {
         self.calls = self.calls.saturating_add(1);
         if self.fail.contains(&self.calls) {

@@ -5,6 +5,8 @@ ghost use Rattle.dm_host.specs.Stream.{Takes};
 
 use crate::Failed;
 
+/// A stream that is written in pieces, as large as it takes. A call that fails is counted once; a call that doesn't
+/// fail leaves the count as it was. (docs/DEFINITIONS.md, "The storage device and faults".)
 pub trait Sink {
     /// What it has taken, where the implementation tells it.
     ghost taken: { Self → Option (List ℕ) };

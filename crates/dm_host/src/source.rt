@@ -5,6 +5,8 @@ ghost use Rattle.dm_host.specs.Stream.{Reads};
 
 use crate::Failed;
 
+/// A stream that is read in pieces, as large as it likes. A call that fails is counted once; a call that doesn't fail
+/// leaves the count as it was. (docs/DEFINITIONS.md, "The storage device and faults".)
 pub trait Source {
     /// What is left to read, where the implementation tells it.
     ghost left: { Self → Option (List ℕ) };

@@ -1,5 +1,5 @@
 //! What no clause says: that calls succeed while memory is ample, and that each type is usable through its trait.
-ghost use Rattle.std.specs.Prelude.{[], false};
+ghost use Rattle.dm_host.specs.Disk.{untold};
 ghost use Rattle.std.proofs.Common.{rules};
 
 use crate::{
@@ -125,6 +125,25 @@ fn a_blown_fuse_fails_each_call(rt: HostRuntime) -> Result<(), Fail> {
 }
 
 #[test]
+fn a_byte_rots_before_its_call(rt: HostRuntime) -> Result<(), Fail> {
+    let alloc = rt.alloc();
+    let mut bay = MemBay::empty(alloc);
+    bay.rot = [(2, 7, 1, 9), (3, 7, 5, 9), (4, 8, 0, 9)].to_vec(alloc)?;
+    bay.fail = [4].to_vec(alloc)?;
+    bay.write(7, 0, &[1, 2, 3])?;
+    assert_eq!(rt; bay.bytes(7), [1, 2, 3].as_slice());
+    bay.write(8, 0, &[5])?;
+    assert_eq!(rt; bay.bytes(7), [1, 9, 3].as_slice());
+    let mut into = [0; 3];
+    bay.read(7, 0, &mut into)?;
+    assert_eq!(rt; into, [1, 9, 3]);
+    assert_eq!(rt; bay.sync(8), Err(Failed));
+    assert_eq!(rt; bay.bytes(8), [9].as_slice());
+    assert_eq!(rt; bay.faults(), 1);
+    Ok(())
+}
+
+#[test]
 fn a_byte_is_set(rt: HostRuntime) -> Result<(), Fail> {
     let mut bay = MemBay::empty(rt.alloc());
     bay.write(1, 0, &[1, 2])?;
@@ -140,15 +159,15 @@ struct Silent {
 }
 
 impl Bay for Silent {
-    ghost disk = { λ s. record { told = false; seen = λ g. []; may_leave = λ g c. ⊥; moment = 0; left_since = λ t x. ⊥ } };
+    ghost disk = { λ s. untold };
 
     ghost count = { λ s. s.count };
 
-    ghost counts_now = { λ s t x le now. now 0 };
+    ghost counts_now = { λ s t x le now. tt };
 
-    ghost only_now = { λ s x left. absurd left };
+    ghost only_now = { λ s x left g. tt };
 
-    ghost seen_may_stay = { λ s g told. absurd (Prim.search rules) };
+    ghost seen_may_stay = { λ s g. tt };
 
     ghost bounded = { λ s g told. absurd (Prim.search rules) };
 

@@ -2,17 +2,16 @@
 use Rattle.std.proofs.Common.{◌≡◌, inl, inr, ⊎_elim, ℕ, List, [], ◌∷◌, ◌++◌, sym, ◌∙◌, subst}
 use Rattle.dm_host.specs.Disk.{Disk, Image}
 use Rattle.dm_host.specs.Works.{Works, File, Every}
-use Rattle.dm_host.proofs.Moments.{and_then, at_site, settled_still}
+use Rattle.dm_host.proofs.Moments.{and_then, at_site, settled_still, still_told}
 use Rattle.dm_journal.specs.Grammar.{StandsFor, AtRest, Pends, BeforeOrAfter}
 use Rattle.dm_journal.specs.State.{At, Keeps, Doubts}
 use Rattle.dm_journal.specs.Pair.{IsPrefix}
-use Rattle.dm_journal.proofs.Appending.{still_told}
 
 module _ (f : ℕ) (a b : Disk) (Q : Image → Type 0) (w : Works (File f) a b Q) (j : At) (apart : j.file ≡ f → ⊥) where
   -- a journal on another file keeps its payloads
   pub keeps_apart : (ps : List (List ℕ)) → Keeps a j ps → Keeps b j ps
   keeps_apart ps k = record {
-    told = still_told (File f) a b Q w k.told;
+    told = still_told (File f) a b Q w j.file k.told;
     settled = k.settled;
     place = k.place;
     fits = k.fits;
@@ -23,7 +22,7 @@ module _ (f : ℕ) (a b : Disk) (Q : Image → Type 0) (w : Works (File f) a b Q
   -- and stays in doubt
   pub doubts_apart : (ps : List (List ℕ)) (payload : List ℕ) → Doubts a j ps payload → Doubts b j ps payload
   doubts_apart ps payload k = record {
-    told = still_told (File f) a b Q w k.told;
+    told = still_told (File f) a b Q w j.file k.told;
     doubt = k.doubt;
     place = k.place;
     fits = k.fits;

@@ -1,16 +1,13 @@
 -- An append on the disk, in the disks before it, after the first write and sync, and after the second.
-use Rattle.std.proofs.Common.{◌≡◌, inl, ℕ, ◌+◌, List, [], ◌∷◌, ◌++◌, length, Bool, IsTrue, refl, sym, ◌∙◌, ap, subst, arith}
+use Rattle.std.proofs.Common.{◌≡◌, inl, ℕ, ◌+◌, List, [], ◌∷◌, ◌++◌, length, refl, sym, ◌∙◌, ap, subst, arith}
 use Rattle.std.specs.Prelude.{⊤}
-use Rattle.dm_host.specs.Disk.{Disk, Image, Only, Same, Torn, Written}
+use Rattle.dm_host.specs.Disk.{Disk, Image, Only, Same, Tells, Torn, Written}
 use Rattle.dm_host.specs.Works.{Works, File, Follows}
-use Rattle.dm_host.proofs.Moments.{weaker, and_then}
+use Rattle.dm_host.proofs.Moments.{weaker, and_then, still_told}
 use Rattle.dm_journal.specs.Grammar.{Fits, inner, AtRest, Pends, BeforeOrAfter}
 use Rattle.dm_journal.specs.State.{At, Keeps, Doubts, settled_at, doubtful_at}
 use Rattle.dm_journal.proofs.Frames.{all_push, length-frames_push}
 use Rattle.dm_journal.proofs.Tearing.{Staged, pends_either, behind_torn, behind_written, gate_torn, gate_written}
-
-pub still_told : (mine : ℕ → Type 0) (a b : Disk) (P : Image → Type 0) → Works mine a b P → IsTrue a.told → IsTrue b.told
-still_told mine a b P w told = subst (λ (t : Bool). IsTrue t) (sym w.told) told
 
 -- what a crash leaves of the file after a step on it
 pub left_after : (step : List ℕ → List ℕ → Type 0) (f : ℕ) (a b : Disk) → Works (File f) a b (Follows step f a) → (c : List ℕ) → b.may_leave f c
@@ -49,9 +46,9 @@ module _ (f p : ℕ) (bytes : List ℕ) (ps : List (List ℕ)) (payload : List �
       weaker (File f) d0 d1 (Follows (Torn (p + 1) (length bytes)) f d0) (λ x. BeforeOrAfter ps payload (x f)) w1
       (λ x follows. pends_either ps payload (x f) k.fits fits (first_moment (x f) follows.0 follows.1 follows.2))
 
-  pub first_doubts : (IsTrue d0.told → Torn (p + 1) (length bytes) (d0.seen f) (d1.seen f)) → Doubts d1 (doubtful_at f p (length payload)) ps payload
+  pub first_doubts : (Tells d0 f → Torn (p + 1) (length bytes) (d0.seen f) (d1.seen f)) → Doubts d1 (doubtful_at f p (length payload)) ps payload
   first_doubts torn = record {
-    told = still_told (File f) d0 d1 _ w1 k.told;
+    told = still_told (File f) d0 d1 _ w1 f k.told;
     doubt = refl;
     place = k.place;
     fits = k.fits;
@@ -74,12 +71,12 @@ module _ (f p : ℕ) (bytes : List ℕ) (ps : List (List ℕ)) (payload : List �
         (weaker (File f) d1 d2 (Follows (Torn p 1) f d1) (λ x. BeforeOrAfter ps payload (x f)) w2
         (λ x follows. pends_either ps payload (x f) k.fits fits (second_moment (x f) follows.0 follows.1 follows.2)))
 
-    told1 : IsTrue d1.told
-    told1 = still_told (File f) d0 d1 _ w1 k.told
+    told1 : Tells d1 f
+    told1 = still_told (File f) d0 d1 _ w1 f k.told
 
-    pub second_doubts : (IsTrue d1.told → Torn p 1 (d1.seen f) (d2.seen f)) → Doubts d2 (doubtful_at f p (length payload)) ps payload
+    pub second_doubts : (Tells d1 f → Torn p 1 (d1.seen f) (d2.seen f)) → Doubts d2 (doubtful_at f p (length payload)) ps payload
     second_doubts torn = record {
-      told = still_told (File f) d1 d2 _ w2 told1;
+      told = still_told (File f) d1 d2 _ w2 f told1;
       doubt = refl;
       place = k.place;
       fits = k.fits;
@@ -88,12 +85,12 @@ module _ (f p : ℕ) (bytes : List ℕ) (ps : List (List ℕ)) (payload : List �
       left = λ c left. let from = left_after (Torn p 1) f d1 d2 w2 c left in second_moment c from.0 from.1 from.2;
     }
 
-    pub both_keep : (IsTrue d1.told → Written p (1 ∷ []) (d1.seen f) (d2.seen f)) → Only (d2.seen f) (d2.may_leave f)
+    pub both_keep : (Tells d1 f → Written p (1 ∷ []) (d1.seen f) (d2.seen f)) → Only (d2.seen f) (d2.may_leave f)
         → Keeps d2 (settled_at f (p + (5 + length payload))) (ps ++ payload ∷ [])
     both_keep opened only2 =
         let rest : AtRest (ps ++ payload ∷ []) (d2.seen f) = gate_written ps payload p k.place (d1.seen f) (d2.seen f) staged (opened told1) in
         record {
-          told = still_told (File f) d1 d2 _ w2 told1;
+          told = still_told (File f) d1 d2 _ w2 f told1;
           settled = refl;
           place = ap (λ (n : ℕ). n + (5 + length payload)) k.place ∙ sym (length-frames_push ps payload);
           fits = all_push ps payload k.fits fits;

@@ -3,12 +3,11 @@ use Rattle.std.proofs.Common.{◌≡◌, ℕ, ◌+◌, ◌≤◌, ◌^◌, List,
 use Rattle.std.proofs.lemmas.List.{get_or_at}
 use Rattle.dm_host.specs.Disk.{Disk, Only, Same}
 use Rattle.dm_host.specs.Works.{Works, File, Follows}
-use Rattle.dm_host.proofs.Moments.{weaker, fewer_after}
+use Rattle.dm_host.proofs.Moments.{weaker, fewer_after, still_told}
 use Rattle.dm_journal.specs.Grammar.{inner, frames, AtRest, Pends, BeforeOrAfter}
 use Rattle.dm_journal.specs.State.{At, place_behind, with_landed, Keeps, Doubts, settled_at, doubtful_at}
 use Rattle.dm_journal.proofs.Frames.{all_push, frames_push, length-frames_push}
 use Rattle.dm_journal.proofs.Tearing.{pends_either}
-use Rattle.dm_journal.proofs.Appending.{still_told}
 
 -- each crash leaves the payloads before or with the one in doubt
 pub doubts_either : (j : At) (ps : List (List ℕ)) (payload : List ℕ) (d0 d1 : Disk) → Doubts d0 j ps payload → Works (File j.file) d0 d1 (Follows Same j.file d0)
@@ -22,7 +21,7 @@ module _ (f p n : ℕ) (ps : List (List ℕ)) (payload : List ℕ) (d0 d1 : Disk
   -- nothing was found out
   pub doubts_still : Doubts d1 (doubtful_at f p n) ps payload
   doubts_still = record {
-    told = still_told (File f) d0 d1 _ w k.told;
+    told = still_told (File f) d0 d1 _ w f k.told;
     doubt = k.doubt;
     place = k.place;
     fits = k.fits;
@@ -59,7 +58,7 @@ module _ (f p n : ℕ) (ps : List (List ℕ)) (payload : List ℕ) (d0 d1 : Disk
         let rest : AtRest (ps ++ payload ∷ []) (d1.seen f) = subst (λ (l : List ℕ). AtRest (ps ++ payload ∷ []) l) (sym same) (landed_rest is_open) in
         let size : n ≡ length payload = Prim.search rules in
         record {
-          told = still_told (File f) d0 d1 _ w k.told;
+          told = still_told (File f) d0 d1 _ w f k.told;
           settled = refl;
           place = omega (arith, k.place, size, length-frames_push ps payload);
           fits = all_push ps payload k.fits k.payload_fits;

@@ -1,10 +1,10 @@
-mod Frames
-mod Tearing
-mod Appending
-mod Outcome
+pub mod Frames
+pub mod Tearing
+pub mod Appending
+pub mod Outcome
 pub mod Healing
-mod Opening
-mod Measuring
+pub mod Opening
+pub mod Measuring
 pub mod Lending
 pub mod Apart
 pub mod Unique

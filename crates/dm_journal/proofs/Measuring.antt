@@ -5,13 +5,12 @@ use Rattle.std.proofs.lemmas.Nat.{from_be_bytes-to_be_bytes_4}
 use Rattle.std.specs.Int.{w32, to_be_bytes, from_be_bytes}
 use Rattle.dm_host.specs.Disk.{Disk, Same, part}
 use Rattle.dm_host.specs.Works.{Works, File, Follows}
-use Rattle.dm_host.proofs.Moments.{fewer_after}
+use Rattle.dm_host.proofs.Moments.{fewer_after, still_told}
 use Rattle.dm_host.proofs.Outside.{part-within, part-at}
 use Rattle.dm_journal.specs.Grammar.{longest, Fits, inner, frames, AtRest}
 use Rattle.dm_journal.specs.State.{Keeps, settled_at}
 use Rattle.dm_journal.specs.Load.{Reading, IsDamage, moved, loading_at}
 use Rattle.dm_journal.proofs.Frames.{all_push, frames_push, length-frames_push}
-use Rattle.dm_journal.proofs.Appending.{still_told}
 use Rattle.dm_journal.proofs.Opening.{Front, front_of}
 
 pub five : (xs : List ℕ) → length xs ≡ 5 → xs ≡ get_or xs 0 0 ∷ get_or xs 1 0 ∷ get_or xs 2 0 ∷ get_or xs 3 0 ∷ get_or xs 4 0 ∷ []
@@ -101,7 +100,7 @@ module _ (f p last end : ℕ) (ps : List (List ℕ)) (d0 d1 : Disk) (r : Reading
   -- a call that changes nothing
   pub reading_still : Reading d1 (loading_at f p last end) ps
   reading_still = record {
-    told = still_told (File f) d0 d1 _ w r.told;
+    told = still_told (File f) d0 d1 _ w f r.told;
     place = r.place;
     fits = r.fits;
     gate = r.gate;
@@ -117,7 +116,7 @@ module _ (f p last end : ℕ) (ps : List (List ℕ)) (d0 d1 : Disk) (r : Reading
       let still = reading_still in
       let rest : AtRest ps (d1.seen f) = record { gate = r.gate; junk = r.rest; closed = λ e. shut (gate_there ps r.gate r.rest (d0.seen f) p r.is r.place ∙ e); is = same ∙ r.is } in
       record {
-        told = still_told (File f) d0 d1 _ w r.told;
+        told = still_told (File f) d0 d1 _ w f r.told;
         settled = refl;
         place = r.place;
         fits = r.fits;

@@ -1,6 +1,6 @@
 -- A file that is made ready to be read, in the disks before, after its sync, and after a gate was written into an empty one.
-use Rattle.std.proofs.Common.{◌≡◌, inl, inr, ℕ, ◌<◌, ◌≤◌, List, [], ◌∷◌, length, IsTrue, refl, sym, subst, arith}
-use Rattle.dm_host.specs.Disk.{Disk, Only, Same, Torn}
+use Rattle.std.proofs.Common.{◌≡◌, inl, inr, ℕ, ◌<◌, ◌≤◌, List, [], ◌∷◌, length, refl, sym, subst, arith}
+use Rattle.dm_host.specs.Disk.{Disk, Only, Same, Tells, Torn}
 use Rattle.dm_host.specs.Works.{Works, File, Follows}
 use Rattle.dm_host.proofs.Moments.{weaker, and_then, fewer_after}
 use Rattle.dm_journal.specs.Load.{Reading, Reopens, loading_at}
@@ -15,7 +15,7 @@ front_of [] long = absurd (omega arith)
 front_of (a ∷ rest) long = record { gate = a; rest = rest; is = refl }
 
 -- at the start of a file that has a gate and is synced
-pub reading_start : (f : ℕ) (d : Disk) → IsTrue d.told → (end : ℕ) → end ≡ length (d.seen f) → 0 < end → Only (d.seen f) (d.may_leave f) → Reading d (loading_at f 0 0 end) []
+pub reading_start : (f : ℕ) (d : Disk) → Tells d f → (end : ℕ) → end ≡ length (d.seen f) → 0 < end → Only (d.seen f) (d.may_leave f) → Reading d (loading_at f 0 0 end) []
 reading_start f d told end is long only =
     let front = front_of (d.seen f) (omega (arith, is, long)) in
     record { told = told; place = refl; fits = tt; gate = front.gate; rest = front.rest; is = front.is; end = is; synced = only }

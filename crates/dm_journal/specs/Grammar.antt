@@ -6,11 +6,11 @@ use Rattle.std.specs.List.{AllByRecursion}
 
 -- the greatest length of a payload
 abbrev pub longest : ℕ
-longest = 16778234
+longest = 20971520
 
 -- what a journal's buffer has room for: the longest payload, its length and a gate
 abbrev pub buffer_room : ℕ
-buffer_room = 16778240
+buffer_room = 20971526
 
 -- a payload that a journal takes
 abbrev pub Fits : List ℕ → Type 0

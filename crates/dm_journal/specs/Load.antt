@@ -1,10 +1,10 @@
 -- Reading a journal file from its start, a payload at a time.
-use Rattle.std.specs.Prelude.{◌≡◌, ◌⊎◌, ℕ, ◌+◌, ◌≤◌, List, [], ◌∷◌, ◌++◌, length, Option, Some, None, Result, Ok, Err, IsErrOf, IsTrue}
+use Rattle.std.specs.Prelude.{◌≡◌, ◌⊎◌, ℕ, ◌+◌, ◌≤◌, List, [], ◌∷◌, ◌++◌, length, Option, Some, None, Result, Ok, Err, IsErrOf}
 use Rattle.std.specs.Borrow.{Bor}
 use Rattle.std.specs.Int.{w32, to_be_bytes}
 use Rattle.std.specs.List.{AllByRecursion}
 use Rattle.dm_host.specs.Count.{Rose}
-use Rattle.dm_host.specs.Disk.{Disk, Only, part}
+use Rattle.dm_host.specs.Disk.{Disk, Only, Tells, part}
 use Rattle.dm_base.specs.declared.error.LoadError.{LoadError}
 use Rattle.dm_base.specs.declared.error.LoadError.TheVariants.{Failed}
 use Rattle.dm_journal.specs.Grammar.{longest, Fits, inner, frames}
@@ -36,7 +36,7 @@ Reopens old new = (new ≡ old) ⊎ ((length old ≤ 1) × (length new ≤ 1))
 
 -- These payloads were read. Behind their frames stands at least a gate. A crash leaves what is read.
 pub record Reading (d : Disk) (j : LoadAt) (payloads : List (List ℕ)) : Type 0 where
-  pub told : IsTrue d.told
+  pub told : Tells d j.file
   pub place : j.place ≡ length (frames payloads)
   pub fits : AllByRecursion Fits payloads
   pub gate : ℕ
@@ -72,7 +72,8 @@ Gives old (Ok (Some payload)) new = new ≡ moved old (length payload.now)
 Gives old (Ok None) new = new ≡ old
 Gives old (Err e) new = new ≡ old
 
--- a count doesn't fall, and a load fails for the outside only where it rose
+-- A load that fails for the outside is one fault, and any other answer of it is none. The count never falls.
 pub record HasLoadCause {T : Type 0} (old new : ℕ) (result : Result T LoadError) : Type 0 where
   pub kept : old ≤ new
+  pub none : (IsErrOf result Failed → ⊥) → new ≡ old
   pub rose : IsErrOf result Failed → Rose old new

@@ -1,7 +1,7 @@
 -- A journal, and the file of a disk that it writes.
-use Rattle.std.specs.Prelude.{◌≡◌, ℕ, ◌+◌, Bool, true, false, List, [], ◌∷◌, ◌++◌, length, Option, Some, None, IsTrue}
+use Rattle.std.specs.Prelude.{◌≡◌, ℕ, ◌+◌, Bool, true, false, List, [], ◌∷◌, ◌++◌, length, Option, Some, None}
 use Rattle.std.specs.List.{AllByRecursion}
-use Rattle.dm_host.specs.Disk.{Disk, Settled}
+use Rattle.dm_host.specs.Disk.{Disk, Settled, Tells}
 use Rattle.dm_journal.specs.Grammar.{Fits, frames, AtRest, Pends}
 
 -- its file, the place of its gate, and where an append failed the length of that payload
@@ -18,7 +18,7 @@ doubtful_at file place n = record { file = file; place = place; doubt = Some n }
 
 -- It keeps these payloads: they are what a read gives, and what each crash leaves.
 pub record Keeps (d : Disk) (j : At) (payloads : List (List ℕ)) : Type 0 where
-  pub told : IsTrue d.told
+  pub told : Tells d j.file
   pub settled : j.doubt ≡ None
   pub place : j.place ≡ length (frames payloads)
   pub fits : AllByRecursion Fits payloads
@@ -27,7 +27,7 @@ pub record Keeps (d : Disk) (j : At) (payloads : List (List ℕ)) : Type 0 where
 
 -- It keeps these payloads, and may keep one more: an append of that one failed.
 pub record Doubts (d : Disk) (j : At) (payloads : List (List ℕ)) (payload : List ℕ) : Type 0 where
-  pub told : IsTrue d.told
+  pub told : Tells d j.file
   pub doubt : j.doubt ≡ Some (length payload)
   pub place : j.place ≡ length (frames payloads)
   pub fits : AllByRecursion Fits payloads

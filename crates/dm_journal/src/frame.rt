@@ -5,11 +5,11 @@ ghost use Rattle.dm_journal.specs.Grammar.{Fits, buffer_room, inner};
 
 use byteorder::{BigEndian, ByteOrder};
 
-// A gate that is open. Any other byte is a closed one.
+/// A gate that is open. Any other byte is a closed one.
 pub const OPEN: u8 = 1;
 
-// The capacity of a journal's buffer: a length, the longest payload and a gate fit in it.
-pub const CAPACITY: usize = 16_778_240;
+/// The capacity of a journal's buffer: a length, the longest payload and a gate fit in it.
+pub const CAPACITY: usize = 20_971_526;
 
 fn four_bytes(n: u32) -> [u8; 4]
     ensures { result ≡ to_be_bytes w32 n }
@@ -19,7 +19,7 @@ fn four_bytes(n: u32) -> [u8; 4]
     bytes
 }
 
-// Makes the buffer hold the length, the payload and the next gate, closed.
+/// Makes the buffer hold the length, the payload and the next gate, closed.
 pub fn put_frame(buffer: &mut Vec<u8>, payload: &[u8])
     requires room { buffer_room ≤ vec_capacity buffer.old }
     requires size { Fits payload.now }

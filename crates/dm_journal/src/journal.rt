@@ -1,7 +1,7 @@
 //! Appends, and what became of one that failed.
 ghost use Rattle.std.specs.Prelude.{◌≡◌, ◌↔◌, ◌+◌, ◌<◌, ◌≤◌, ◌^◌, Ok, false, ℕ, List, [], ◌∷◌, ◌++◌, length, vec_capacity, None, Some, IsTrue, IsSome, IfOk, OnOk, OnErr, ⊤};
 ghost use Rattle.dm_host.specs.Count.{HasCause};
-ghost use Rattle.dm_host.specs.Disk.{Same};
+ghost use Rattle.dm_host.specs.Disk.{Same, Tells};
 ghost use Rattle.dm_host.specs.Works.{Works, File, Follows};
 ghost use Rattle.dm_journal.specs.Grammar.{Fits, longest, buffer_room, inner, BeforeOrAfter};
 ghost use Rattle.dm_journal.specs.State.{At, Keeps, Doubts, settled_at, doubtful_at, with_landed, place_behind};
@@ -35,11 +35,12 @@ impl Model for Journal {
     ghost invariant = { λ j. (j.file < 256) × (j.place ≤ 2 ^ 62) × (buffer_room ≤ vec_capacity j.buffer) × ForSome j.doubt (λ n. n ≤ longest) };
 }
 
-// Writes the bytes behind the gate, and opens it.
-fn add<B: Bay>(bay: &mut B, file: u32, place: u64, bytes: &[u8]) -> Result<(), Failed>
+/// Writes the bytes of a frame behind the gate that stands at a place, syncs, opens the gate and syncs. The bytes
+/// are those of `put_frame`.
+pub fn add<B: Bay>(bay: &mut B, file: u32, place: u64, bytes: &[u8]) -> Result<(), Failed>
     requires file { file < 256 }
     requires place { place ≤ 2 ^ 62 }
-    requires kept { IsTrue (B.disk bay.old).told → (ps : List (List ℕ)) × Keeps (B.disk bay.old) (settled_at file place) ps }
+    requires kept { Tells (B.disk bay.old) file → (ps : List (List ℕ)) × Keeps (B.disk bay.old) (settled_at file place) ps }
     ensures ok { (ps : List (List ℕ)) (payload : List ℕ) → Keeps (B.disk bay.old) (settled_at file place) ps → Fits payload → bytes.now ≡ inner payload ++ 0 ∷ []
         → OnOk result (Keeps (B.disk bay.new) (settled_at file (place + (5 + length payload))) (ps ++ payload ∷ [])) }
     ensures err { (ps : List (List ℕ)) (payload : List ℕ) → Keeps (B.disk bay.old) (settled_at file place) ps → Fits payload → bytes.now ≡ inner payload ++ 0 ∷ []
@@ -54,8 +55,8 @@ fn add<B: Bay>(bay: &mut B, file: u32, place: u64, bytes: &[u8]) -> Result<(), F
     write_synced(bay, file, place, &[OPEN])
 }
 
-// Whether the append of a payload of n bytes at this place landed, as the disk has it.
-fn look<B: Bay>(bay: &mut B, file: u32, place: u64, n: u64) -> Result<bool, Failed>
+/// Whether the append of a payload of n bytes at this place landed, as the disk has it.
+pub fn look<B: Bay>(bay: &mut B, file: u32, place: u64, n: u64) -> Result<bool, Failed>
     requires file { file < 256 }
     requires place { place ≤ 2 ^ 62 }
     requires size { n ≤ longest }
@@ -71,8 +72,8 @@ fn look<B: Bay>(bay: &mut B, file: u32, place: u64, n: u64) -> Result<bool, Fail
     Ok(gate == OPEN && n + 6 <= LAST_PLACE - place)
 }
 
-// The place of the gate behind a frame of n bytes that landed.
-fn behind(landed: bool, place: u64, n: u64) -> u64
+/// The place of the gate behind a frame of n bytes, which landed or not.
+pub fn behind(landed: bool, place: u64, n: u64) -> u64
     requires { place_behind landed place n ≤ 2 ^ 62 }
     ensures { result ≡ place_behind landed place n }
 {
@@ -80,11 +81,12 @@ fn behind(landed: bool, place: u64, n: u64) -> u64
 }
 
 impl Journal {
-    /// Adds a payload behind the others. While it failed, it is in doubt whether the payload is there.
+    /// Adds a payload of at most `MAX_PAYLOAD` bytes behind the others. At `Ok` a crash leaves it. After `Failed` it is in
+    /// doubt whether the payload is there, until a `heal` finds out. (docs/FORMATS.md, "A journal".)
     pub fn append<B: Bay>(&mut self, bay: &mut B, payload: &[u8]) -> Result<(), Failed>
         requires settled { self.old.doubt ≡ None }
         requires size { Fits payload.now }
-        requires kept { IsTrue (B.disk bay.old).told → (ps : List (List ℕ)) × Keeps (B.disk bay.old) self.old ps }
+        requires kept { Tells (B.disk bay.old) self.old.file → (ps : List (List ℕ)) × Keeps (B.disk bay.old) self.old ps }
         ensures ok { (ps : List (List ℕ)) → Keeps (B.disk bay.old) self.old ps → OnOk result (Keeps (B.disk bay.new) self.new (ps ++ payload.now ∷ [])) }
         ensures err { (ps : List (List ℕ)) → Keeps (B.disk bay.old) self.old ps → OnErr result (Doubts (B.disk bay.new) self.new ps payload.now) }
         ensures any_moment { (ps : List (List ℕ)) → Keeps (B.disk bay.old) self.old ps
@@ -116,8 +118,8 @@ impl Journal {
         self.place
     }
 
-    /// Finds out whether the payload in doubt landed, which it answers. Out of doubt it does nothing and answers
-    /// false.
+    /// Finds out whether the payload in doubt landed, which it answers. Out of doubt it makes no call of the device and
+    /// answers false. Where it fails the journal is in doubt as before.
     pub fn heal<B: Bay>(&mut self, bay: &mut B) -> Result<bool, Failed>
         ensures ok { (ps : List (List ℕ)) (payload : List ℕ) → Doubts (B.disk bay.old) self.old ps payload
             → IfOk result (λ landed. Keeps (B.disk bay.new) self.new (with_landed landed ps payload)) }
@@ -127,7 +129,8 @@ impl Journal {
             → Works (File self.old.file) (B.disk bay.old) (B.disk bay.new) (λ x. BeforeOrAfter ps payload (x self.old.file)) }
         ensures same { Works (File self.old.file) (B.disk bay.old) (B.disk bay.new) (Follows Same self.old.file (B.disk bay.old)) }
         ensures moved { (n : ℕ) → self.old.doubt ≡ Some n → IfOk result (λ landed. self.new ≡ settled_at self.old.file (place_behind landed self.old.place n)) }
-        ensures idle { self.old.doubt ≡ None → (result ≡ Ok false) × (self.new ≡ self.old) }
+        ensures idle { self.old.doubt ≡ None → (result ≡ Ok false) × (self.new ≡ self.old) × (bay.new ≡ bay.old) }
+        ensures told { (B.disk bay.new).told ≡ (B.disk bay.old).told }
         ensures stays { OnErr result (self.new ≡ self.old) }
         ensures cause { HasCause (B.count bay.old) (B.count bay.new) result }
     {

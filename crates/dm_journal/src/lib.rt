@@ -10,13 +10,14 @@ mod frame;
 mod journal;
 mod loading;
 mod reading;
+pub mod steps;
 
 pub use dm_base::LoadError;
 pub use journal::Journal;
 pub use loading::Loading;
 
 /// The greatest length of a payload.
-pub const MAX_PAYLOAD: u64 = 16_778_234;
+pub const MAX_PAYLOAD: u64 = 20_971_520;
 
 #[cfg(test)]
 mod tests;

@@ -1,6 +1,6 @@
 //! The payloads of a file, one at a time.
-ghost use Rattle.std.specs.Prelude.{◌≡◌, ◌+◌, ◌<◌, ◌≤◌, ◌^◌, ℕ, List, [], vec_capacity, IsTrue, IfOk, OnOk, IsErr, IsErrOf, ⊤};
-ghost use Rattle.dm_host.specs.Disk.{Same};
+ghost use Rattle.std.specs.Prelude.{◌≡◌, ◌+◌, ◌<◌, ◌≤◌, ◌^◌, ℕ, List, [], length, vec_capacity, IfOk, IfSome, OnOk, IsErr, IsErrOf, ⊤};
+ghost use Rattle.dm_host.specs.Disk.{Only, Same, Tells};
 ghost use Rattle.dm_host.specs.Works.{Works, File, Follows};
 ghost use Rattle.dm_base.specs.declared.conf.ConfKey.{ConfKey};
 ghost use Rattle.dm_base.specs.declared.error.LoadError.TheVariants.{Conf, Damaged, NoMemory};
@@ -42,14 +42,18 @@ impl Loading {
     ghost use Rattle.std.specs.Io.BufRead.{Rests};
     ghost use Rattle.dm_journal.specs.contracts.loading.Loading.{the_row};
 
-    /// Syncs the file and stands at its start. A file of at most a byte gets a closed gate first. After an error
-    /// the file stands for the payloads that it stood for; memory is asked for last.
+    /// Syncs the file and stands at its start. A file of at most a byte gets a closed gate first. `Failed` comes where
+    /// the device failed, `NoMemory` only once the file was opened and synced, and no other error comes. After an
+    /// error the file stands for the payloads that it stood for. The buffer has room for the longest frame; of its
+    /// memory only what a payload needs is ever touched.
     pub fn begin<B: Bay>(alloc: Global, bay: &mut B, file: u32) -> Result<Loading, LoadError>
         requires { file < 256 }
-        ensures reading { IsTrue (B.disk bay.old).told → IfOk result (λ loading. Reading (B.disk bay.new) loading []) }
-        ensures content { IsTrue (B.disk bay.old).told → OnOk result ((B.disk bay.new).seen file ≡ opened ((B.disk bay.old).seen file)) }
+        ensures reading { Tells (B.disk bay.old) file → IfOk result (λ loading. Reading (B.disk bay.new) loading []) }
+        ensures content { Tells (B.disk bay.old) file → OnOk result ((B.disk bay.new).seen file ≡ opened ((B.disk bay.old).seen file)) }
+        ensures refused { Tells (B.disk bay.old) file → IsErrOf result NoMemory
+            → ((B.disk bay.new).seen file ≡ opened ((B.disk bay.old).seen file)) × Only ((B.disk bay.new).seen file) ((B.disk bay.new).may_leave file) }
         ensures start { IfOk result (λ loading. (loading.file ≡ file) × (loading.place ≡ 0)) }
-        ensures any_moment { IsTrue (B.disk bay.old).told → Works (File file) (B.disk bay.old) (B.disk bay.new) (Follows Reopens file (B.disk bay.old)) }
+        ensures any_moment { Tells (B.disk bay.old) file → Works (File file) (B.disk bay.old) (B.disk bay.new) (Follows Reopens file (B.disk bay.old)) }
         ensures others { Works (File file) (B.disk bay.old) (B.disk bay.new) (λ x. ⊤) }
         ensures damaged { (f p : ℕ) → IsErrOf result (Damaged f p) → ⊥ }
         ensures conf { (key : ConfKey) → IsErrOf result (Conf key) → ⊥ }
@@ -66,7 +70,10 @@ impl Loading {
         })
     }
 
-    /// The next payload, and `None` at the first closed gate. After an error the load stands where it stood.
+    /// The next payload, and `None` at the first closed gate. After a payload the load stands nearer the end of the
+    /// file, which bounds its caller's loop; after an error it stands where it stood. `Failed` comes where the device
+    /// failed, and `Damaged` exactly where an open gate stands over a frame that the file doesn't hold whole or that is
+    /// too long.
     pub fn next<B: Bay>(&mut self, bay: &mut B) -> Result<Option<&[u8]>, LoadError>
         ensures* after_borrow { sem 𝓛 (Rests the_row self.entry (λ new. Gives self.old result new)) }
         ensures found { (ps : List (List ℕ)) → Reading (B.disk bay.old) self.old ps → IfOk result (λ found. Finds (B.disk bay.new) self.old ps found) }
@@ -74,6 +81,7 @@ impl Loading {
             → (f p : ℕ) → IsErrOf result (Damaged f p) → IsDamage ps ((B.disk bay.old).seen self.old.file) }
         ensures whole { (ps : List (List ℕ)) → Reading (B.disk bay.old) self.old ps → IsDamage ps ((B.disk bay.old).seen self.old.file) → IsErr result }
         ensures place { (f p : ℕ) → IsErrOf result (Damaged f p) → (f ≡ self.old.file) × (p ≡ self.old.place) }
+        ensures within { IfOk result (λ found. IfSome found (λ payload. self.old.place + (5 + length payload.now) < self.old.end)) }
         ensures memory { IsErrOf result NoMemory → ⊥ }
         ensures conf { (key : ConfKey) → IsErrOf result (Conf key) → ⊥ }
         ensures same { (B.disk bay.new).seen self.old.file ≡ (B.disk bay.old).seen self.old.file }

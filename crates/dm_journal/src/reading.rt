@@ -1,8 +1,8 @@
 //! What stands in a journal file, read over its numbers and a buffer.
-ghost use Rattle.std.specs.Prelude.{◌≡◌, ◌+◌, ◌<◌, ◌≤◌, ◌^◌, ℕ, List, [], length, vec_len, vec_capacity, IsTrue, IfOk, OnOk, IfSome, IsErrOf, ⊤};
+ghost use Rattle.std.specs.Prelude.{◌≡◌, ◌+◌, ◌<◌, ◌≤◌, ◌^◌, ℕ, List, [], length, vec_len, vec_capacity, IfOk, OnOk, IfSome, IsErrOf, ⊤};
 ghost use Rattle.std.specs.Int.{w32, to_be_bytes};
 ghost use Rattle.dm_host.specs.Count.{HasCause};
-ghost use Rattle.dm_host.specs.Disk.{Only, Same, part};
+ghost use Rattle.dm_host.specs.Disk.{Only, Same, Tells, part};
 ghost use Rattle.dm_host.specs.Works.{Works, File, Follows};
 ghost use Rattle.dm_base.specs.declared.conf.ConfKey.{ConfKey};
 ghost use Rattle.dm_base.specs.declared.error.LoadError.TheVariants.{Conf, Damaged, NoMemory};
@@ -16,10 +16,10 @@ use dm_host::{Bay, Failed, write_synced};
 // Syncs the file, and tells its length.
 fn synced_len<B: Bay>(bay: &mut B, file: u32) -> Result<u64, Failed>
     requires { file < 256 }
-    ensures len { IsTrue (B.disk bay.old).told → IfOk result (λ n. n ≡ length ((B.disk bay.old).seen file)) }
+    ensures len { Tells (B.disk bay.old) file → IfOk result (λ n. n ≡ length ((B.disk bay.old).seen file)) }
     ensures limit { IfOk result (λ n. n ≤ 2 ^ 62) }
     ensures same { (B.disk bay.new).seen file ≡ (B.disk bay.old).seen file }
-    ensures durable { OnOk result (Only ((B.disk bay.new).seen file) ((B.disk bay.new).may_leave file)) }
+    ensures durable { Tells (B.disk bay.old) file → OnOk result (Only ((B.disk bay.new).seen file) ((B.disk bay.new).may_leave file)) }
     ensures works { Works (File file) (B.disk bay.old) (B.disk bay.new) (Follows Same file (B.disk bay.old)) }
     ensures cause { HasCause (B.count bay.old) (B.count bay.new) result }
 {
@@ -27,13 +27,13 @@ fn synced_len<B: Bay>(bay: &mut B, file: u32) -> Result<u64, Failed>
     bay.len(file)
 }
 
-// Syncs the file and answers its length. One of at most a byte gets a closed gate first.
+/// Syncs the file and answers its length. One of at most a byte gets a closed gate first.
 pub fn open<B: Bay>(bay: &mut B, file: u32) -> Result<u64, Failed>
     requires { file < 256 }
-    ensures content { IsTrue (B.disk bay.old).told → OnOk result ((B.disk bay.new).seen file ≡ opened ((B.disk bay.old).seen file)) }
-    ensures reading { IsTrue (B.disk bay.old).told → IfOk result (λ end. Reading (B.disk bay.new) (loading_at file 0 0 end) []) }
+    ensures content { Tells (B.disk bay.old) file → OnOk result ((B.disk bay.new).seen file ≡ opened ((B.disk bay.old).seen file)) }
+    ensures reading { Tells (B.disk bay.old) file → IfOk result (λ end. Reading (B.disk bay.new) (loading_at file 0 0 end) []) }
     ensures range { IfOk result (λ end. (0 < end) × (end ≤ 2 ^ 62)) }
-    ensures any_moment { IsTrue (B.disk bay.old).told → Works (File file) (B.disk bay.old) (B.disk bay.new) (Follows Reopens file (B.disk bay.old)) }
+    ensures any_moment { Tells (B.disk bay.old) file → Works (File file) (B.disk bay.old) (B.disk bay.new) (Follows Reopens file (B.disk bay.old)) }
     ensures others { Works (File file) (B.disk bay.old) (B.disk bay.new) (λ x. ⊤) }
     ensures cause { HasCause (B.count bay.old) (B.count bay.new) result }
 {
@@ -105,7 +105,7 @@ fn fetch<B: Bay>(
     requires file { file < 256 }
     requires range { place + n ≤ 2 ^ 63 }
     requires room { n ≤ vec_capacity buffer.old }
-    ensures bytes { IsTrue (B.disk bay.old).told → OnOk result (buffer.new.items ≡ part ((B.disk bay.old).seen file) place n) }
+    ensures bytes { Tells (B.disk bay.old) file → OnOk result (buffer.new.items ≡ part ((B.disk bay.old).seen file) place n) }
     ensures len { vec_len buffer.new ≡ n }
     ensures room { vec_capacity buffer.old ≤ vec_capacity buffer.new }
     ensures same { (B.disk bay.new).seen file ≡ (B.disk bay.old).seen file }
@@ -116,7 +116,7 @@ fn fetch<B: Bay>(
     bay.read(file, place, buffer)
 }
 
-// Reads the payload whose gate stands at this place, and answers its length; `None` where the gate is closed.
+/// Reads the payload whose gate stands at this place, and answers its length; `None` where the gate is closed.
 pub fn advance<B: Bay>(
     bay: &mut B,
     file: u32,

@@ -1,6 +1,7 @@
 //! What no clause says: that calls succeed while nothing fails, and the bytes of a file. And callers that are generic
 //! in their bay: a loop that loads, and two journals that are appended to in turn.
-ghost use Rattle.std.specs.Prelude.{◌≡◌, ◌≢◌, ◌<◌, ℕ, List, [], None, IsTrue, IfOk, IfSome};
+ghost use Rattle.std.specs.Prelude.{◌≡◌, ◌≢◌, ◌<◌, ℕ, List, [], None, IfOk, IfSome};
+ghost use Rattle.dm_host.specs.Disk.{Tells};
 ghost use Rattle.dm_host.specs.Works.{Works, Every};
 ghost use Rattle.dm_journal.specs.Grammar.{Fits, StandsFor};
 ghost use Rattle.dm_journal.specs.State.{Keeps};
@@ -22,8 +23,8 @@ fn append_both<B: Bay>(
     requires apart { second.old.file ≢ first.old.file }
     requires settled { (first.old.doubt ≡ None) × (second.old.doubt ≡ None) }
     requires size { Fits one.now × Fits two.now }
-    requires first { IsTrue (B.disk bay.old).told → (ps : List (List ℕ)) × Keeps (B.disk bay.old) first.old ps }
-    requires second { IsTrue (B.disk bay.old).told → (qs : List (List ℕ)) × Keeps (B.disk bay.old) second.old qs }
+    requires first { Tells (B.disk bay.old) first.old.file → (ps : List (List ℕ)) × Keeps (B.disk bay.old) first.old ps }
+    requires second { Tells (B.disk bay.old) second.old.file → (qs : List (List ℕ)) × Keeps (B.disk bay.old) second.old qs }
     ensures any_moment { (ps qs : List (List ℕ)) → Keeps (B.disk bay.old) first.old ps → Keeps (B.disk bay.old) second.old qs
         → Works Every (B.disk bay.old) (B.disk bay.new) (λ x. IsPrefix ps one.now (x first.old.file) qs two.now (x second.old.file)) }
 {
@@ -39,9 +40,9 @@ fn load<B: Bay>(
     limit: usize,
 ) -> Result<Option<Journal>, LoadError>
     requires { file < 256 }
-    ensures kept { IsTrue (B.disk bay.old).told → IfOk result (λ found. IfSome found (λ j. (ps : List (List ℕ)) × Keeps (B.disk bay.new) j ps)) }
+    ensures kept { Tells (B.disk bay.old) file → IfOk result (λ found. IfSome found (λ j. (ps : List (List ℕ)) × Keeps (B.disk bay.new) j ps)) }
     ensures settled { IfOk result (λ found. IfSome found (λ j. j.doubt ≡ None)) }
-    ensures same { IsTrue (B.disk bay.old).told → (ps : List (List ℕ)) → StandsFor ps ((B.disk bay.old).seen file) → IfOk result (λ found. IfSome found (λ j. Keeps (B.disk bay.new) j ps)) }
+    ensures same { Tells (B.disk bay.old) file → (ps : List (List ℕ)) → StandsFor ps ((B.disk bay.old).seen file) → IfOk result (λ found. IfSome found (λ j. Keeps (B.disk bay.new) j ps)) }
 {
     let mut loading = Loading::begin(alloc, bay, file)?;
     for _ in 0..limit {

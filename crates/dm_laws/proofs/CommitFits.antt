@@ -8,8 +8,9 @@ use Rattle.dm_base.specs.declared.identifier.GroupId.{GroupId}
 use Rattle.dm_base.specs.declared.volume.Chunk.{Chunk}
 use Rattle.dm_base.specs.declared.volume.Piece.{Piece}
 use Rattle.dm_rules.specs.Known.{known_bytes}
-use Rattle.dm_rules.specs.Plan.{chunks_of, zone_end}
-use Rattle.dm_rules.specs.Zone.{chunk_header, zone_length}
+use Rattle.dm_parts.specs.FirstVersion.{chunks_of, zone_end}
+use Rattle.dm_rules.specs.Zone.{zone_length}
+use Rattle.dm_rules.specs.Version.{first_version}
 use Rattle.dm_tables.specs.Rows.{EachRow}
 use Rattle.dm_tables.proofs.Orders.{numbers}
 use Rattle.dm_tables.proofs.Rows.{one_row, removed}
@@ -89,7 +90,7 @@ piece_written bytes r written k (q ∷ ps) p all among =
 -- a written piece is known where its zone stands
 zone_known : (images : Named Image) (bytes : List ℕ) (r : Reserved) (p : Piece) (w : WrittenZone) → WrittenKept images r.chunk p w
     → w.zone ≡ zone_of w.epoch bytes r p
-    → known_bytes (known_on images p.vsn.0) p.zone (zone_length chunk_header r.chunk p.len) ≡ Some (zone_of w.epoch bytes r p)
+    → known_bytes (known_on images p.vsn.0) p.zone (zone_length first_version r.chunk p.len) ≡ Some (zone_of w.epoch bytes r p)
 zone_known images bytes r p w k same = ap (known_bytes (known_on images p.vsn.0) p.zone) (sym k.len) ∙ k.known ∙ ap (λ t. Some t) same
 
 -- ---- the side of the group
@@ -104,7 +105,7 @@ module _ (g : ℕ) (entries : Numbered Entry) (contents : Numbered (List ℕ)) (
   record ChunkMade (c : Chunk) : Type 0 where
     piece : Piece
     among : Among piece r.pieces
-    part : Among c (chunks_of chunk_header r.chunk piece)
+    part : Among c (chunks_of first_version r.chunk piece)
     inside : ChunkInside r.chunk piece c
     hand : ZoneInHand s.group.tables.volumes s.group.tips r.chunk piece
 
@@ -148,7 +149,7 @@ module _ (g : ℕ) (entries : Numbered Entry) (contents : Numbered (List ℕ)) (
       let b = chunk_made d two in
       let from = kept.places.kept n n a.piece.offset b.piece.offset vsn place (zone_covers c vsn place a cover) (zone_covers d vsn place b covers) in
       let same = one_piece 0 r.len r.pieces a.piece b.piece mine.joins a.among b.among from.1 in
-      chunks_apart r.chunk b.piece c d vsn place mine.some (subst (λ p. Among c (chunks_of chunk_header r.chunk p)) same a.part) b.part cover covers
+      chunks_apart r.chunk b.piece c d vsn place mine.some (subst (λ p. Among c (chunks_of first_version r.chunk p)) same a.part) b.part cover covers
 
   made_below : (c : Chunk) (v : VolumeRow) → Among c r.chunks → map.get s.group.tables.volumes c.vsn.0 ≡ Some v
       → c.place + c.len ≤ tip_or (map.get s.group.tips c.vsn.0) v
@@ -156,9 +157,9 @@ module _ (g : ℕ) (entries : Numbered Entry) (contents : Numbered (List ℕ)) (
       let m = chunk_made c among in
       let at : m.piece.vsn.0 ≡ c.vsn.0 = sym (ap (λ x. x.0) m.inside.volume) in
       let row : m.hand.volume ≡ v = one_row s.group.tables.volumes m.piece.vsn.0 c.vsn.0 m.hand.volume v at m.hand.is is in
-      let within : zone_end chunk_header r.chunk m.piece ≤ tip_or (map.get s.group.tips c.vsn.0) v =
-      subst (λ x. zone_end chunk_header r.chunk m.piece ≤ tip_or (map.get s.group.tips c.vsn.0) x) row
-      (subst (λ x. zone_end chunk_header r.chunk m.piece ≤ tip_or (map.get s.group.tips x) m.hand.volume) at m.hand.within) in
+      let within : zone_end first_version r.chunk m.piece ≤ tip_or (map.get s.group.tips c.vsn.0) v =
+      subst (λ x. zone_end first_version r.chunk m.piece ≤ tip_or (map.get s.group.tips c.vsn.0) x) row
+      (subst (λ x. zone_end first_version r.chunk m.piece ≤ tip_or (map.get s.group.tips x) m.hand.volume) at m.hand.within) in
       let high = m.inside.high in
       omega (arith, high, within)
 

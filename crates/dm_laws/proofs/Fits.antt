@@ -6,8 +6,10 @@ use Rattle.dm_base.specs.declared.identifier.GroupId.{GroupId}
 use Rattle.dm_base.specs.declared.serial.Vsn.{Vsn}
 use Rattle.dm_base.specs.declared.volume.Piece.{Piece}
 use Rattle.dm_rules.specs.Label.{first_zone}
-use Rattle.dm_rules.specs.Plan.{rooms, pieces_of, all_chunks}
-use Rattle.dm_rules.specs.Zone.{chunk_header, zone_length}
+use Rattle.dm_rules.specs.Plan.{rooms, pieces_of}
+use Rattle.dm_parts.specs.FirstVersion.{all_chunks}
+use Rattle.dm_rules.specs.Zone.{zone_length}
+use Rattle.dm_rules.specs.Version.{first_version}
 use Rattle.dm_tables.specs.Rows.{EachRow}
 use Rattle.dm_parts.specs.declared.call.Component.{Component}
 use Rattle.dm_parts.specs.declared.call.Component.TheVariants as component
@@ -109,7 +111,7 @@ pub record ZoneFits (vsn : List ℕ) (place : ℕ) (zone : List ℕ) (b index : 
   pub at : piece_at index reserved.pieces ≡ Some piece
   pub volume : piece.vsn.0 ≡ vsn
   pub stands : piece.zone ≡ place
-  pub len : length zone ≡ zone_length chunk_header reserved.chunk piece.len
+  pub len : length zone ≡ zone_length first_version reserved.chunk piece.len
   pub image : IsSome (map.get s.images vsn)
 
 -- what a mark needs where its write fails
@@ -164,7 +166,7 @@ pub record ReservationOpens (n : ℕ) (r : Reserved) (s : Side) : Type 0 where
   pub chunk : r.chunk ≡ s.group.conf.chunk
   pub room : r.len ≤ rooms (spaces s.group)
   pub pieces : r.pieces ≡ pieces_of (spaces s.group) 0 r.len
-  pub chunks : r.chunks ≡ all_chunks chunk_header r.chunk r.pieces
+  pub chunks : r.chunks ≡ all_chunks first_version r.chunk r.pieces
   pub settled : s.group.doubt ≡ None
 
 -- a mount of a piece that opens is of a reservation's piece

@@ -3,8 +3,9 @@ use Rattle.std.proofs.Common.{◌≡◌, ℕ, true, Option, None, Some, refl, ap
 use Rattle.std.specs.FinMap as map
 use Rattle.dm_base.specs.declared.identifier.Bfid.{Bfid}
 use Rattle.dm_base.specs.declared.identifier.GroupId.{GroupId}
-use Rattle.dm_rules.specs.Plan.{rooms, pieces_of, all_chunks}
-use Rattle.dm_rules.specs.Zone.{chunk_header}
+use Rattle.dm_rules.specs.Plan.{rooms, pieces_of}
+use Rattle.dm_parts.specs.FirstVersion.{all_chunks}
+use Rattle.dm_rules.specs.Version.{first_version}
 use Rattle.dm_parts.specs.declared.state.CopyReservation.{CopyReservation}
 use Rattle.dm_parts.specs.declared.state.CopyState.{CopyState}
 use Rattle.dm_machine.specs.declared.state.Joint.{Joint}
@@ -54,7 +55,7 @@ reserve_answered j g s b len n is = answered_by j (reserve g s b len n) (λ take
       len = len;
       chunk = s.group.conf.chunk;
       pieces = pieces;
-      chunks = all_chunks chunk_header s.group.conf.chunk pieces;
+      chunks = all_chunks first_version s.group.conf.chunk pieces;
     } in
     let opens : ReservationOpens n r (side_undoubted s) = record {
       free = none_of (map.get s.group.reservations n) holds.1.1.0;

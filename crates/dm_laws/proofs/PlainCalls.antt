@@ -199,7 +199,7 @@ patch_steps j path offset bytes now f None is here =
     get-shown j.daemon.tables.names j.daemon.tables.inodes contents path
     ∙ bytes_of_file contents j.daemon.tables.inodes (map.get j.daemon.tables.names path) f is ∙ ap (λ x. Some x) (sym own) in
     patch_is_write path offset bytes (bytes_online f.inode.contents)
-    (record { files = (show (files_of j)).files; dumps = map.empty; now = time_at j.daemon now.0 }) there
+    (record { files = (show (files_of j)).files; dumps = map.empty; now = time_at j.daemon now.0; age = j.daemon.age }) there
 patch_steps j path offset bytes now f (Some a) is here = refl
 
 patch_plain : (j : Joint) (path : List ℕ) (offset : ℕ) (bytes : List ℕ) (now : Secs) (o : Option File) → file_at j.daemon path ≡ o

@@ -49,9 +49,9 @@ bytes_named contents inodes (Some n) = Some (bytes_in contents (map.get inodes n
 abbrev pub files_shown : Named Ino → Numbered Inode → Numbered (List ℕ) → Files
 files_shown names inodes contents = map_values (λ path n. bytes_in contents (map.get inodes n.0)) names
 
--- the namespace that tables show
-abbrev pub shown : DaemonTables → Numbered (List ℕ) → Namespace
-shown t contents = record { files = files_shown t.names t.inodes contents; dumps = map.empty; now = t.time.0 }
+-- the namespace that tables show, with this age in force
+abbrev pub shown : ℕ → DaemonTables → Numbered (List ℕ) → Namespace
+shown age t contents = record { files = files_shown t.names t.inodes contents; dumps = map.empty; now = t.time.0; age = age }
 
 named_at : (contents : Numbered (List ℕ)) (inodes : Numbered Inode) (name : Option Ino)
     → option_map (λ n. bytes_in contents (map.get inodes n.0)) name ≡ bytes_named contents inodes name
@@ -104,8 +104,8 @@ get-plain j path kept first =
     ∙ name_held j (map.get j.daemon.tables.names path) kept first
 
 -- that namespace is the one that its tables show
-pub plain_shown : (j : Joint) → Kept j → FirstCopy j → plain_of j ≡ shown j.daemon.tables j.daemon.contents
+pub plain_shown : (j : Joint) → Kept j → FirstCopy j → plain_of j ≡ shown j.daemon.age j.daemon.tables j.daemon.contents
 plain_shown j kept first =
-    let same : (plain_of j).files ≡ (shown j.daemon.tables j.daemon.contents).files =
+    let same : (plain_of j).files ≡ (shown j.daemon.age j.daemon.tables j.daemon.contents).files =
     same_rows paths _ _ (λ q. get-plain j q kept first ∙ sym (get-shown j.daemon.tables.names j.daemon.tables.inodes j.daemon.contents q)) in
-    ap (λ files. record { files = files; dumps = map.empty; now = j.daemon.tables.time.0 }) same
+    ap (λ files. record { files = files; dumps = map.empty; now = j.daemon.tables.time.0; age = j.daemon.age }) same

@@ -31,20 +31,23 @@ use Rattle.dm_laws.proofs.PlainRecords.{later_contents, contents_of, TakesRight,
 
 -- ---- what a joint state has of files
 
--- the tables of the daemon, and the contents
-abbrev pub files_of : Joint → DaemonTables × Numbered (List ℕ)
-files_of j = (j.daemon.tables, j.daemon.contents)
+-- the tables of the daemon, the contents, and the age in force
+abbrev pub Shown : Type 0
+Shown = DaemonTables × Numbered (List ℕ) × ℕ
+
+abbrev pub files_of : Joint → Shown
+files_of j = (j.daemon.tables, j.daemon.contents, j.daemon.age)
 
 -- the namespace that they show
-abbrev pub show : DaemonTables × Numbered (List ℕ) → Namespace
-show files = shown files.0 files.1
+abbrev pub show : Shown → Namespace
+show files = shown files.2 files.0 files.1
 
 -- those after a record
-abbrev files_after : DaemonRecord → DaemonTables × Numbered (List ℕ) → DaemonTables × Numbered (List ℕ)
-files_after r files = (landed files.0 r, later_contents files.0 files.1 r.step)
+abbrev files_after : DaemonRecord → Shown → Shown
+files_after r files = (landed files.0 r, later_contents files.0 files.1 r.step, files.2)
 
 -- what a record needs so that it shows what it should
-pub record Follows (files : DaemonTables × Numbered (List ℕ)) (r : DaemonRecord) : Type 0 where
+pub record Follows (files : Shown) (r : DaemonRecord) : Type 0 where
   pub may : MayFollow files.0 r
   pub right : TakesRight files.0.inodes files.1 r.step
 
@@ -68,11 +71,11 @@ follows j r land = record { may = land.follow; right = takes_right j r.step land
 pub record_shown : (j : Joint) (r : DaemonRecord) → Kept j → Follows (files_of j) r
     → show (files_after r (files_of j)) ≡ plain_run (steps_of (Some (payload.Daemon r))) (show (files_of j))
 record_shown j r kept follow =
-    step_shown j.daemon.tables j.daemon.contents j.daemon.cap r.time r.step kept.files follow.may.step follow.right
+    step_shown j.daemon.age j.daemon.tables j.daemon.contents j.daemon.cap r.time r.step kept.files follow.may.step follow.right
 
 -- ---- what the parts of a plan leave of files
 
-abbrev files_paid : Option Payload → DaemonTables × Numbered (List ℕ) → DaemonTables × Numbered (List ℕ)
+abbrev files_paid : Option Payload → Shown → Shown
 files_paid None files = files
 files_paid (Some (payload.Daemon r)) files = files_after r files
 files_paid (Some (payload.Group g r)) files = files
@@ -95,7 +98,7 @@ healed_files j false c = refl
 -- the files after a payload
 pub paid_files : (j : Joint) (p : Option Payload) → files_of (paid j p) ≡ files_paid p (files_of j)
 paid_files j None = refl
-paid_files j (Some (payload.Daemon r)) = ap (λ contents. (landed j.daemon.tables r, contents)) (contents_of j.daemon r.step)
+paid_files j (Some (payload.Daemon r)) = ap (λ contents. (landed j.daemon.tables r, contents, j.daemon.age)) (contents_of j.daemon r.step)
 paid_files j (Some (payload.Group g r)) = refl
 
 marked_files : (j : Joint) (m : Mark) → files_of (marked j m) ≡ files_of j

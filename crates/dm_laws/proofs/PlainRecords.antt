@@ -114,27 +114,27 @@ files_reformed names inodes contents n f same =
 
 -- ---- a step of each kind
 
--- the namespace of these files at this time
-abbrev namespace_at : ℕ → Files → Namespace
-namespace_at now files = record { files = files; dumps = map.empty; now = now }
+-- the namespace of these files at this time, with this age in force
+abbrev namespace_at : ℕ → ℕ → Files → Namespace
+namespace_at age now files = record { files = files; dumps = map.empty; now = now; age = age }
 
-write_shown : (t : DaemonTables) (contents : Numbered (List ℕ)) (cap : ℕ) (time : Secs) (path : List ℕ) (change : ℕ) (bytes : List ℕ)
+write_shown : (age : ℕ) (t : DaemonTables) (contents : Numbered (List ℕ)) (cap : ℕ) (time : Secs) (path : List ℕ) (change : ℕ) (bytes : List ℕ)
     → FilesKept t contents cap → MayWrite t path change bytes
-    → shown (file_written (record t { time = time }) path change bytes) contents ≡ written path bytes (shown (record t { time = time }) contents)
+    → shown age (file_written (record t { time = time }) path change bytes) contents ≡ written path bytes (shown age (record t { time = time }) contents)
 unfolding written
-write_shown t contents cap time path change bytes kept may =
+write_shown age t contents cap time path change bytes kept may =
     let n : Ino = record { 0 = number_or (map.get t.names path) change } in
     let i : Inode = record { change = change; contents = Regular bytes } in
-    ap (namespace_at time.0) (files_put t.names t.inodes contents path n i
+    ap (namespace_at age time.0) (files_put t.names t.inodes contents path n i
     (number_apart t contents cap path change kept may.next.next (map.get t.names path) refl))
 
-cut_shown : (t : DaemonTables) (contents : Numbered (List ℕ)) (cap : ℕ) (time : Secs) (path : List ℕ) (change : ℕ) → FilesKept t contents cap
+cut_shown : (age : ℕ) (t : DaemonTables) (contents : Numbered (List ℕ)) (cap : ℕ) (time : Secs) (path : List ℕ) (change : ℕ) → FilesKept t contents cap
     → (r : Option Ino) → map.get t.names path ≡ r → IsSome r
-    → shown (file_removed (record t { time = time }) path change r) contents ≡ without_file path (shown (record t { time = time }) contents)
+    → shown age (file_removed (record t { time = time }) path change r) contents ≡ without_file path (shown age (record t { time = time }) contents)
 unfolding without_file
-cut_shown t contents cap time path change kept None none there = absurd (cc)
-cut_shown t contents cap time path change kept (Some n) is there =
-    ap (namespace_at time.0) (files_cut t.names t.inodes contents path n (λ q m at same. kept.names_apart q path m n at is same))
+cut_shown age t contents cap time path change kept None none there = absurd (cc)
+cut_shown age t contents cap time path change kept (Some n) is there =
+    ap (namespace_at age time.0) (files_cut t.names t.inodes contents path n (λ q m at same. kept.names_apart q path m n at is same))
 
 -- ---- a put that begins
 
@@ -181,21 +181,21 @@ files_shown_begun names inodes entries contents n b i is form made held =
           ∙ new_beside_in entries contents b.0 (bytes_online i.contents) (map.get inodes m) made (λ x at. held m x at)
     ])
 
-begin_shown : (t : DaemonTables) (contents : Numbered (List ℕ)) (cap : ℕ) (time : Secs) (path : List ℕ) (b : Bfid) (groups : List GroupId)
+begin_shown : (age : ℕ) (t : DaemonTables) (contents : Numbered (List ℕ)) (cap : ℕ) (time : Secs) (path : List ℕ) (b : Bfid) (groups : List GroupId)
     → FilesKept t contents cap → MayBeginPut t path b groups
-    → shown (put_begun_at (record t { time = time }) b groups (map.get t.names path))
+    → shown age (put_begun_at (record t { time = time }) b groups (map.get t.names path))
     (contents_with contents b.0 (file_named t.inodes (map.get t.names path)))
-    ≡ shown (record t { time = time }) contents
-begin_shown t contents cap time path b groups kept may =
+    ≡ shown age (record t { time = time }) contents
+begin_shown age t contents cap time path b groups kept may =
     let later : DaemonTables = record t { time = time } in
     let put : put_begun_at later b groups (map.get t.names path) ≡ put_begun later b groups may.n.0 (Some may.inode) =
     ap (put_begun_at later b groups) may.name ∙ ap (put_begun later b groups may.n.0) may.is in
     let file : contents_with contents b.0 (file_named t.inodes (map.get t.names path)) ≡ map.insert contents b.0 (bytes_online may.inode.contents) =
     ap (λ o. contents_with contents b.0 (file_named t.inodes o)) may.name ∙ ap (λ o. contents_with contents b.0 (file_of may.n.0 o)) may.is in
     let made : EachRow t.entries (λ d e. d < b.0) = subst (λ k. EachRow t.entries (λ d e. d < k)) (sym may.next) kept.entries_made in
-    ap (λ x. shown x (contents_with contents b.0 (file_named t.inodes (map.get t.names path)))) put
-    ∙ ap (shown (put_begun later b groups may.n.0 (Some may.inode))) file
-    ∙ ap (namespace_at time.0) (files_shown_begun t.names t.inodes t.entries contents may.n.0 b may.inode may.is may.form made kept.held)
+    ap (λ x. shown age x (contents_with contents b.0 (file_named t.inodes (map.get t.names path)))) put
+    ∙ ap (shown age (put_begun later b groups may.n.0 (Some may.inode))) file
+    ∙ ap (namespace_at age time.0) (files_shown_begun t.names t.inodes t.entries contents may.n.0 b may.inode may.is may.form made kept.held)
 
 -- ---- a put that ends, and bytes that leave the disk or come back
 
@@ -221,15 +221,15 @@ recalled_bytes contents bytes (Making own b) right = refl
 recalled_bytes contents bytes (Dual own b) right = refl
 recalled_bytes contents bytes (Offline len b) right = sym (ap copy_or (right b len refl))
 
-end_shown : (t : DaemonTables) (contents : Numbered (List ℕ)) (n : ℕ) (b : ℕ) (dual : Bool) → shown (put_over t n b dual) contents ≡ shown t contents
-end_shown t contents n b dual =
-    ap (namespace_at t.time.0) (files_reformed t.names t.inodes contents n (put_ended dual) (λ i is. ended_bytes contents dual i.contents))
+end_shown : (age : ℕ) (t : DaemonTables) (contents : Numbered (List ℕ)) (n : ℕ) (b : ℕ) (dual : Bool) → shown age (put_over t n b dual) contents ≡ shown age t contents
+end_shown age t contents n b dual =
+    ap (namespace_at age t.time.0) (files_reformed t.names t.inodes contents n (put_ended dual) (λ i is. ended_bytes contents dual i.contents))
 
-release_shown : (t : DaemonTables) (contents : Numbered (List ℕ)) (name : Option Ino)
-    → EachRow t.inodes (λ n i. HeldRightly t.entries contents i.contents) → shown (file_released t name) contents ≡ shown t contents
-release_shown t contents None held = refl
-release_shown t contents (Some n) held =
-    ap (namespace_at t.time.0) (files_reformed t.names t.inodes contents n.0 released
+release_shown : (age : ℕ) (t : DaemonTables) (contents : Numbered (List ℕ)) (name : Option Ino)
+    → EachRow t.inodes (λ n i. HeldRightly t.entries contents i.contents) → shown age (file_released t name) contents ≡ shown age t contents
+release_shown age t contents None held = refl
+release_shown age t contents (Some n) held =
+    ap (namespace_at age t.time.0) (files_reformed t.names t.inodes contents n.0 released
     (λ i is. released_bytes t.entries contents i.contents (held n.0 i is)))
 
 take_shown : (names : Named Ino) (inodes : Numbered Inode) (contents : Numbered (List ℕ)) (n : ℕ) (bytes : List ℕ)
@@ -271,14 +271,14 @@ TakesRight inodes contents (Release path) = Unit {0}
 TakesRight inodes contents (Taken n bytes) = TakenRight inodes contents n.0 bytes
 
 -- each step of the daemon does its plain step to the namespace that the tables show
-pub step_shown : (t : DaemonTables) (contents : Numbered (List ℕ)) (cap : ℕ) (time : Secs) (s : DaemonStep) → FilesKept t contents cap → MayStep t s
+pub step_shown : (age : ℕ) (t : DaemonTables) (contents : Numbered (List ℕ)) (cap : ℕ) (time : Secs) (s : DaemonStep) → FilesKept t contents cap → MayStep t s
     → TakesRight t.inodes contents s
-    → shown (stepped (record t { time = time }) s) (later_contents t contents s) ≡ plain_run (step_of s) (shown (record t { time = time }) contents)
-step_shown t contents cap time (Write path change bytes) kept may right = write_shown t contents cap time path change bytes kept may
-step_shown t contents cap time (Remove path change) kept may right =
-    cut_shown t contents cap time path change kept (map.get t.names path) refl may.there
-step_shown t contents cap time (BeginPut path b groups) kept may right = begin_shown t contents cap time path b groups kept may
-step_shown t contents cap time (Stored b group) kept may right = refl
-step_shown t contents cap time (EndPut n b dual) kept may right = end_shown (record t { time = time }) contents n.0 b.0 dual
-step_shown t contents cap time (Release path) kept may right = release_shown (record t { time = time }) contents (map.get t.names path) kept.held
-step_shown t contents cap time (Taken n bytes) kept may right = ap (namespace_at time.0) (take_shown t.names t.inodes contents n.0 bytes right)
+    → shown age (stepped (record t { time = time }) s) (later_contents t contents s) ≡ plain_run (step_of s) (shown age (record t { time = time }) contents)
+step_shown age t contents cap time (Write path change bytes) kept may right = write_shown age t contents cap time path change bytes kept may
+step_shown age t contents cap time (Remove path change) kept may right =
+    cut_shown age t contents cap time path change kept (map.get t.names path) refl may.there
+step_shown age t contents cap time (BeginPut path b groups) kept may right = begin_shown age t contents cap time path b groups kept may
+step_shown age t contents cap time (Stored b group) kept may right = refl
+step_shown age t contents cap time (EndPut n b dual) kept may right = end_shown age (record t { time = time }) contents n.0 b.0 dual
+step_shown age t contents cap time (Release path) kept may right = release_shown age (record t { time = time }) contents (map.get t.names path) kept.held
+step_shown age t contents cap time (Taken n bytes) kept may right = ap (namespace_at age time.0) (take_shown t.names t.inodes contents n.0 bytes right)

@@ -3,8 +3,9 @@ use Rattle.std.proofs.Common.{◌≡◌, ℕ, ◌<◌, true, Some, None, List, l
 use Rattle.std.specs.FinMap as map
 use Rattle.dm_base.specs.declared.volume.Piece.{Piece}
 use Rattle.dm_rules.specs.Known.{known_bytes}
-use Rattle.dm_rules.specs.Plan.{all_chunks}
-use Rattle.dm_rules.specs.Zone.{chunk_header, zone_length}
+use Rattle.dm_parts.specs.FirstVersion.{all_chunks}
+use Rattle.dm_rules.specs.Zone.{zone_length}
+use Rattle.dm_rules.specs.Version.{first_version}
 use Rattle.dm_tables.specs.Rows.{EachRow}
 use Rattle.dm_state.specs.Tables.{Numbered, Named}
 use Rattle.dm_state.specs.Entries.{asks}
@@ -24,7 +25,7 @@ use Rattle.dm_laws.specs.Rows.{PiecesJoin, PutOpen, ZoneInHand}
 
 -- the last write of a piece: it is known where the zone of the piece stands, and has its length
 pub record WrittenKept (images : Named Image) (chunk : ℕ) (p : Piece) (w : WrittenZone) : Type 0 where
-  pub len : length w.zone ≡ zone_length chunk_header chunk p.len
+  pub len : length w.zone ≡ zone_length first_version chunk p.len
   pub known : known_bytes (known_on images p.vsn.0) p.zone (length w.zone) ≡ Some w.zone
 
 -- a reservation is the one of its bitfile's copy; the group doesn't have the bitfile yet
@@ -40,7 +41,7 @@ pub record ReservationKept (bitfiles : Numbered BitfileRow) (volumes : Named Vol
   pub some : 0 < r.chunk
   pub joins : PiecesJoin 0 r.pieces r.len
   pub zones : (p : Piece) → Among p r.pieces → ZoneInHand volumes tips r.chunk p
-  pub chunks : r.chunks ≡ all_chunks chunk_header r.chunk r.pieces
+  pub chunks : r.chunks ≡ all_chunks first_version r.chunk r.pieces
   pub written : EachRow held.written (λ index w. (p : Piece) → piece_at index r.pieces ≡ Some p → WrittenKept images r.chunk p w)
 
 -- a copy is of a bitfile whose put is open and asks the group; its length is that of the content

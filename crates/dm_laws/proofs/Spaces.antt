@@ -12,11 +12,12 @@ use Rattle.dm_base.specs.declared.volume.Piece.{Piece}
 use Rattle.dm_rules.specs.declared.space.Space.{Space}
 use Rattle.dm_rules.specs.Numbers.{lesser}
 use Rattle.dm_rules.specs.Plan.{rooms, pieces_of}
-use Rattle.dm_rules.specs.Room.{room, held}
-use Rattle.dm_rules.specs.Zone.{chunk_header, zone_length}
+use Rattle.dm_rules.specs.Room.{room, most_bytes}
+use Rattle.dm_rules.specs.Zone.{zone_length}
+use Rattle.dm_rules.specs.Version.{first_version}
 use Rattle.dm_tables.proofs.Entries.{first, second, less, entries-found}
 use Rattle.dm_tables.proofs.Orders.{paths}
-use Rattle.dm_zone.proofs.RoomLemmas.{held_fits, room_none, room_some}
+use Rattle.dm_zone.proofs.RoomLemmas.{bytes_fit, room_none, room_some}
 use Rattle.dm_state.specs.Tables.{Named}
 use Rattle.dm_state.specs.declared.group.VolumeRow.{VolumeRow}
 use Rattle.dm_parts.specs.declared.state.Group.{Group}
@@ -34,7 +35,7 @@ pub record SpaceOf (volumes : Named VolumeRow) (tips : Named ℕ) (chunk : ℕ) 
   pub is : map.get volumes sp.vsn.0 ≡ Some volume
   pub usable : volume.held ≡ None
   pub tip : sp.tip ≡ tip_or (map.get tips sp.vsn.0) volume
-  pub fits : sp.room ≡ room chunk_header volume.size sp.tip chunk
+  pub fits : sp.room ≡ room first_version volume.size sp.tip chunk
 
 -- no two spaces are of one volume
 abbrev NoneOn : List ℕ → List Space → Type 0
@@ -50,7 +51,7 @@ spaces_in group es = flat_map (λ e. of_serial e.0 (space_if group e.0 e.1 e.1.h
 
 -- the space of one volume
 abbrev space_at : Group → List ℕ → VolumeRow → Space
-space_at group vsn v = record { vsn = record { 0 = vsn }; tip = tip_of group vsn v; room = room_of group vsn v }
+space_at group vsn v = record { vsn = record { 0 = vsn }; version = first_version; tip = tip_of group vsn v; room = room_of group vsn v }
 
 one_space : (group : Group) (vsn : List ℕ) (v : VolumeRow) (since : Option Secs) (sp : Space) → Among sp (space_if group vsn v since)
     → (sp ≡ space_at group vsn v) × (since ≡ None)
@@ -135,7 +136,7 @@ from_rest sp sps p f = record { space = f.space; among = inr f.among; vsn = f.vs
 
 -- the piece that takes so much of a space
 abbrev piece_on : Space → ℕ → ℕ → Piece
-piece_on sp offset taken = record { vsn = sp.vsn; zone = sp.tip; offset = offset; len = taken }
+piece_on sp offset taken = record { vsn = sp.vsn; version = sp.version; zone = sp.tip; offset = offset; len = taken }
 
 from_first : (sp : Space) (sps : List Space) (offset taken : ℕ) (p : Piece) → p ≡ piece_on sp offset taken → 0 < taken → taken ≤ sp.room
     → PieceFrom (sp ∷ sps) p
@@ -231,16 +232,16 @@ pieces_whole sps len fits = subst (PiecesJoin 0 (pieces_of sps 0 len)) (zero-add
 -- ---- the zone of a piece
 
 -- a zone of bytes for which a volume has room ends within its size
-pub zone_fits : (size tip chunk n : ℕ) → 0 < chunk → tip ≤ size → 0 < n → n ≤ room chunk_header size tip chunk
-    → tip + zone_length chunk_header chunk n ≤ size
+pub zone_fits : (size tip chunk n : ℕ) → 0 < chunk → tip ≤ size → 0 < n → n ≤ room first_version size tip chunk
+    → tip + zone_length first_version chunk n ≤ size
 zone_fits size tip chunk n positive within some fits =
     elim (cases_lt (size - tip) 32) [
-      | inl l ↦ let e = room_none size tip chunk l in absurd (omega arith)
+      | inl l ↦ let e = room_none first_version size tip chunk l in absurd (omega arith)
       | inr g ↦
-          let e = room_some size tip chunk g in
-          let most = held chunk_header (size - tip - 32) chunk in
+          let e = room_some first_version size tip chunk g in
+          let most = most_bytes 48 (size - tip - 32) chunk in
           let le : n ≤ most = omega arith in
           let fewer = count_le chunk n most positive le in
-          let whole = held_fits (size - tip - 32) chunk positive in
+          let whole = bytes_fit 48 (size - tip - 32) chunk (omega arith) positive in
           omega arith
     ]

@@ -5,9 +5,10 @@ use Rattle.dm_base.specs.declared.conf.GroupConf.{GroupConf}
 use Rattle.dm_base.specs.declared.volume.Piece.{Piece}
 use Rattle.dm_rules.specs.declared.space.Space.{Space}
 use Rattle.dm_rules.specs.Numbers.{narrowed}
-use Rattle.dm_rules.specs.Plan.{pieces_of, zone_end}
+use Rattle.dm_rules.specs.Plan.{pieces_of}
+use Rattle.dm_parts.specs.FirstVersion.{zone_end}
 use Rattle.dm_rules.specs.Room.{room}
-use Rattle.dm_rules.specs.Zone.{chunk_header}
+use Rattle.dm_rules.specs.Version.{first_version}
 use Rattle.dm_tables.specs.Rows.{EachRow}
 use Rattle.dm_tables.proofs.Orders.{paths, same_or}
 use Rattle.dm_tables.proofs.Rows.{one_row, get-here, get-beside}
@@ -24,7 +25,7 @@ use Rattle.dm_laws.proofs.Spaces.{SpaceOf, PieceFrom, spaces_are, spaces_apart, 
 
 -- the tip of a volume after pieces have moved the tips: behind the zone of one of the pieces on it, or as before
 data Moved (chunk : ℕ) (ps : List Piece) (tips : Named ℕ) (vsn : List ℕ) : Type 0 where
-  Behind : (p : Piece) → Among p ps → p.vsn.0 ≡ vsn → map.get (tips_moved chunk ps tips) vsn ≡ Some (narrowed (zone_end chunk_header chunk p))
+  Behind : (p : Piece) → Among p ps → p.vsn.0 ≡ vsn → map.get (tips_moved chunk ps tips) vsn ≡ Some (narrowed (zone_end first_version chunk p))
       → Moved chunk ps tips vsn
   Unmoved : ((p : Piece) → Among p ps → p.vsn.0 ≡ vsn → ⊥) → map.get (tips_moved chunk ps tips) vsn ≡ map.get tips vsn → Moved chunk ps tips vsn
 
@@ -37,7 +38,7 @@ none_of_two q ps vsn differ none p (inr a) at = none p a at
 moved : (chunk : ℕ) (ps : List Piece) (tips : Named ℕ) (vsn : List ℕ) → Moved chunk ps tips vsn
 moved chunk [] tips vsn = Unmoved (λ p a at. a) refl
 moved chunk (q ∷ ps) tips vsn =
-    let e = narrowed (zone_end chunk_header chunk q) in
+    let e = narrowed (zone_end first_version chunk q) in
     elim (moved chunk ps (map.insert tips q.vsn.0 e) vsn) [
       | Behind p a at is ↦ Behind p (inr a) at is
       | Unmoved none is ↦ elim (same_or paths q.vsn.0 vsn) [
@@ -52,8 +53,8 @@ pub record NewZone (volumes : Named VolumeRow) (tips : Named ℕ) (chunk : ℕ) 
   pub is : map.get volumes p.vsn.0 ≡ Some volume
   pub usable : volume.held ≡ None
   pub from : p.zone ≡ tip_or (map.get tips p.vsn.0) volume
-  pub longer : p.zone ≤ zone_end chunk_header chunk p
-  pub within : zone_end chunk_header chunk p ≤ volume.size
+  pub longer : p.zone ≤ zone_end first_version chunk p
+  pub within : zone_end first_version chunk p ≤ volume.size
 
 new_zone_on : (conf : GroupConf) (volumes : Named VolumeRow) (tips : Named ℕ) (sps : List Space) (p : Piece) → 0 < conf.chunk
     → EachRow volumes (VolumeKept conf tips) → (f : PieceFrom sps p) → SpaceOf volumes tips conf.chunk f.space → NewZone volumes tips conf.chunk p
@@ -63,7 +64,7 @@ new_zone_on conf volumes tips sps p positive kept f of =
     let is = ap (map.get volumes) at ∙ of.is in
     let from : p.zone ≡ tip_or (map.get tips p.vsn.0) v = f.zone ∙ of.tip ∙ ap (λ k. tip_or (map.get tips k) v) (sym at) in
     let bound = (kept p.vsn.0 v is).tip in
-    let len : p.len ≤ room chunk_header v.size p.zone conf.chunk = subst (λ t. p.len ≤ room chunk_header v.size t conf.chunk) (sym f.zone)
+    let len : p.len ≤ room first_version v.size p.zone conf.chunk = subst (λ t. p.len ≤ room first_version v.size t conf.chunk) (sym f.zone)
     (subst (λ r. p.len ≤ r) of.fits f.fits) in
     record {
       volume = v;
@@ -79,15 +80,15 @@ new_zone_on conf volumes tips sps p positive kept f of =
 pub record LaidOut (volumes : Named VolumeRow) (old new : Named ℕ) (chunk : ℕ) (ps : List Piece) : Type 0 where
   pub zones : (p : Piece) → Among p ps → NewZone volumes old chunk p
   pub reserved : (p : Piece) (v : VolumeRow) → Among p ps → map.get volumes p.vsn.0 ≡ Some v
-      → zone_end chunk_header chunk p ≤ tip_or (map.get new p.vsn.0) v
+      → zone_end first_version chunk p ≤ tip_or (map.get new p.vsn.0) v
   pub apart : (p q : Piece) → Among p ps → Among q ps → p.vsn.0 ≡ q.vsn.0 → p ≡ q
   pub grows : (vsn : List ℕ) (v : VolumeRow) → map.get volumes vsn ≡ Some v → tip_or (map.get old vsn) v ≤ tip_or (map.get new vsn) v
   pub within : (vsn : List ℕ) (v : VolumeRow) → map.get volumes vsn ≡ Some v → tip_or (map.get new vsn) v ≤ v.size
 
 -- a tip behind the zone of a piece, which ends within the volume
 tip_behind : (volumes : Named VolumeRow) (tips new : Named ℕ) (chunk : ℕ) (p : Piece) (vsn : List ℕ) (v : VolumeRow) → map.get volumes vsn ≡ Some v
-    → v.size < 2 ^ 64 → p.vsn.0 ≡ vsn → NewZone volumes tips chunk p → map.get new vsn ≡ Some (narrowed (zone_end chunk_header chunk p))
-    → (tip_or (map.get new vsn) v ≡ zone_end chunk_header chunk p) × (tip_or (map.get tips vsn) v ≤ tip_or (map.get new vsn) v)
+    → v.size < 2 ^ 64 → p.vsn.0 ≡ vsn → NewZone volumes tips chunk p → map.get new vsn ≡ Some (narrowed (zone_end first_version chunk p))
+    → (tip_or (map.get new vsn) v ≡ zone_end first_version chunk p) × (tip_or (map.get tips vsn) v ≤ tip_or (map.get new vsn) v)
     × (tip_or (map.get new vsn) v ≤ v.size)
 tip_behind volumes tips new chunk p vsn v e small at zone is =
     let same : zone.volume ≡ v = one_row volumes p.vsn.0 vsn zone.volume v at zone.is e in
@@ -96,8 +97,8 @@ tip_behind volumes tips new chunk p vsn v e small at zone is =
     zone.from ∙ ap (λ k. tip_or (map.get tips k) zone.volume) at ∙ ap (tip_or (map.get tips vsn)) same in
     let longer = zone.longer in
     let within = zone.within in
-    let put : tip_or (map.get new vsn) v ≡ narrowed (zone_end chunk_header chunk p) = ap (λ t. tip_or t v) is in
-    let tip : tip_or (map.get new vsn) v ≡ zone_end chunk_header chunk p = omega arith in
+    let put : tip_or (map.get new vsn) v ≡ narrowed (zone_end first_version chunk p) = ap (λ t. tip_or t v) is in
+    let tip : tip_or (map.get new vsn) v ≡ zone_end first_version chunk p = omega arith in
     (tip, omega arith, omega arith)
 
 tip_after : (volumes : Named VolumeRow) (tips : Named ℕ) (chunk : ℕ) (ps : List Piece) (vsn : List ℕ) (v : VolumeRow)
@@ -115,10 +116,10 @@ tip_after volumes tips chunk ps vsn v e small bound zones (Unmoved none is) =
 tip_of_piece : (volumes : Named VolumeRow) (tips : Named ℕ) (chunk : ℕ) (ps : List Piece) (p : Piece) (v : VolumeRow) → Among p ps
     → map.get volumes p.vsn.0 ≡ Some v → v.size < 2 ^ 64 → ((q : Piece) → Among q ps → NewZone volumes tips chunk q)
     → ((q : Piece) → Among q ps → q.vsn.0 ≡ p.vsn.0 → q ≡ p) → Moved chunk ps tips p.vsn.0
-    → zone_end chunk_header chunk p ≤ tip_or (map.get (tips_moved chunk ps tips) p.vsn.0) v
+    → zone_end first_version chunk p ≤ tip_or (map.get (tips_moved chunk ps tips) p.vsn.0) v
 tip_of_piece volumes tips chunk ps p v among e small zones alone (Behind q a at is) =
     let tip = (tip_behind volumes tips (tips_moved chunk ps tips) chunk q p.vsn.0 v e small at (zones q a) is).0 in
-    let same : zone_end chunk_header chunk q ≡ zone_end chunk_header chunk p = ap (zone_end chunk_header chunk) (alone q a at) in
+    let same : zone_end first_version chunk q ≡ zone_end first_version chunk p = ap (zone_end first_version chunk) (alone q a at) in
     omega arith
 tip_of_piece volumes tips chunk ps p v among e small zones alone (Unmoved none is) = absurd (none p among refl)
 

@@ -11,7 +11,8 @@ use Rattle.dm_base.specs.declared.volume.Chunk.{Chunk}
 use Rattle.dm_base.specs.declared.volume.Piece.{Piece}
 use Rattle.dm_rules.specs.Known.{agrees, known_bytes}
 use Rattle.dm_rules.specs.Label.{label, first_zone}
-use Rattle.dm_rules.specs.Zone.{chunk_header, zone_length}
+use Rattle.dm_rules.specs.Zone.{zone_length}
+use Rattle.dm_rules.specs.Version.{first_version}
 use Rattle.dm_rules.proofs.Knowledge.{agrees-known_bytes}
 use Rattle.dm_state.specs.Tables.{Named}
 use Rattle.dm_parts.specs.declared.call.VolumeCall.{VolumeCall}
@@ -52,11 +53,11 @@ use Rattle.std.proofs.lemmas.Option.{same_Some}
 -- a mount of a piece has the place of its zone
 written_zone_fits : (s : Side) (m b index place chunk : ℕ) (p : Piece) (zone : List ℕ) (own vsn : Vsn)
     → PieceMount s.group.reservations s.copies m b index p chunk own
-    → (nat_eq place p.zone && nat_eq (length zone) (zone_length chunk_header chunk p.len)) ≡ true → own.0 ≡ vsn.0 → IsSome (map.get s.images vsn.0)
+    → (nat_eq place p.zone && nat_eq (length zone) (zone_length first_version chunk p.len)) ≡ true → own.0 ≡ vsn.0 → IsSome (map.get s.images vsn.0)
     → ZoneFits vsn.0 place zone b index s
 written_zone_fits s m b index place chunk p zone own vsn kept at same image =
     let parts = and_parts _ _ at in
-    let len : length zone ≡ zone_length chunk_header chunk p.len = eqb-true _ _ parts.1 in
+    let len : length zone ≡ zone_length first_version chunk p.len = eqb-true _ _ parts.1 in
     record {
       copy = kept.copy;
       is = kept.is;
@@ -69,7 +70,7 @@ written_zone_fits s m b index place chunk p zone own vsn kept at same image =
       at = kept.piece;
       volume = ap (λ v. v.0) kept.volume ∙ same;
       stands = sym (eqb-true place p.zone parts.0);
-      len = len ∙ ap (λ c. zone_length chunk_header c p.len) (sym kept.cut);
+      len = len ∙ ap (λ c. zone_length first_version c p.len) (sym kept.cut);
       image = image;
     }
 
@@ -93,7 +94,7 @@ zone_mark_fits j g vsn x place zone (origin.Chunk b c) fits = tt
 -- ---- a label
 
 -- a label of a serial number of six characters has 64 bytes
-length_label : (vsn : List ℕ) (group epoch size : ℕ) → length vsn ≡ 6 → length (label vsn group epoch size) ≡ first_zone
+length_label : (vsn : List ℕ) (group epoch size : ℕ) → length vsn ≡ 6 → length (label vsn group first_version epoch size) ≡ first_zone
 unfolding label
 length_label (s ∷ t ∷ u ∷ v ∷ w ∷ x ∷ []) group epoch size six = refl
 length_label [] group epoch size six = absurd (omega arith)
@@ -189,7 +190,7 @@ module _ (j : Joint) (w : ℕ) (g : GroupId) (vsn : Vsn) (s : Side) (image : Ima
       spoil_fits j g s vsn x m place zone x.origin is (origin_is m mount) holds.0 same has_image
 
   label_long : (m epoch : ℕ) → map.get s.mounts m ≡ Some x → lowest_false (needed (relabel g vsn image x m epoch)) ≡ None
-      → length (label vsn.0 g.0 epoch image.size) ≡ first_zone
+      → length (label vsn.0 g.0 first_version epoch image.size) ≡ first_zone
   label_long m epoch mount legal =
       let holds = all_hold (needed (relabel g vsn image x m epoch)) legal in
       let of = unlisted_configured s m x.vsn x.origin (origin_is m mount) (and_parts _ _ holds.0).0 in

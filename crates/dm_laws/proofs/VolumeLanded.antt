@@ -7,8 +7,8 @@ use Rattle.dm_base.specs.declared.serial.Vsn.{Vsn}
 use Rattle.dm_base.specs.declared.volume.Chunk.{Chunk}
 use Rattle.dm_base.specs.declared.volume.Piece.{Piece}
 use Rattle.dm_rules.specs.Label.{first_zone}
-use Rattle.dm_rules.specs.Plan.{zone_end}
-use Rattle.dm_rules.specs.Zone.{chunk_header}
+use Rattle.dm_parts.specs.FirstVersion.{zone_end}
+use Rattle.dm_rules.specs.Version.{first_version}
 use Rattle.dm_tables.specs.Rows.{EachRow}
 use Rattle.dm_tables.proofs.Orders.{paths, same_or}
 use Rattle.dm_tables.proofs.Rows.{get-here, get-beside, inserted, each-beside}
@@ -69,7 +69,7 @@ module _ (volumes : Named VolumeRow) (tips : Named ℕ) (vsn : List ℕ) (slot s
     is = beside_free paths volumes vsn p.vsn.0 (new_volume slot size) z.volume new z.is;
     usable = z.usable;
     behind = z.behind;
-    within = subst (λ t. zone_end chunk_header chunk p ≤ tip_or t z.volume) (sym (tip_stays p.vsn.0 z.volume new z.is)) z.within;
+    within = subst (λ t. zone_end first_version chunk p ≤ tip_or t z.volume) (sym (tip_stays p.vsn.0 z.volume new z.is)) z.within;
   }
 
   bitfile_wider : (g : ℕ) (entries : Numbered Entry) (contents : Numbered (List ℕ)) (images : Named Image) (b : ℕ) (row : BitfileRow)

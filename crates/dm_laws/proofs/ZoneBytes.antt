@@ -9,9 +9,11 @@ use Rattle.dm_base.specs.declared.volume.Chunk.{Chunk}
 use Rattle.dm_base.specs.declared.volume.Piece.{Piece}
 use Rattle.dm_rules.specs.Known.{Known, byte_and, known_bytes}
 use Rattle.dm_rules.specs.Numbers.{lesser}
-use Rattle.dm_rules.specs.Plan.{chunks_at, chunks_of}
-use Rattle.dm_rules.specs.Zone.{zone_header, chunk_header, zone_front, chunk_front, chunk_text, chunk_count}
-use Rattle.dm_rules.specs.Zone.{cut_into, cut, unsealed, zone, zone_length}
+use Rattle.dm_rules.specs.Plan.{chunks_at}
+use Rattle.dm_parts.specs.FirstVersion.{chunks_of}
+use Rattle.dm_rules.specs.Zone.{zone_header, zone_front, chunk_front, chunk_text, chunk_count}
+use Rattle.dm_rules.specs.Version.{first_version}
+use Rattle.dm_rules.specs.Zone.{cut_into, cut, zone, zone_length}
 use Rattle.dm_zone.proofs.Cuts.{length-chunk_front, length-zone_front}
 use Rattle.dm_laws.specs.Among.{Among}
 
@@ -84,16 +86,16 @@ back_is chunk left xs =
 
 -- the first chunk of the bytes that are left, behind its header, and what stands behind it
 first_known : (known : Known) (place count b total offset left chunk : ℕ) (xs : List ℕ) → length xs ≡ left
-    → known_bytes known place (48 * suc count + left) ≡ Some (flat_map chunk_text (cut_into unsealed (suc count) b total offset xs chunk))
+    → known_bytes known place (48 * suc count + left) ≡ Some (flat_map chunk_text (cut_into first_version (suc count) b total offset xs chunk))
     → (known_bytes known (place + 48) (lesser chunk left) ≡ Some (take chunk xs))
     × (known_bytes known (place + 48 + lesser chunk left) (48 * count + (left - lesser chunk left))
-    ≡ Some (flat_map chunk_text (cut_into unsealed count b total (offset + length (take chunk xs)) (drop chunk xs) chunk)))
+    ≡ Some (flat_map chunk_text (cut_into first_version count b total (offset + length (take chunk xs)) (drop chunk xs) chunk)))
 unfolding cut_into
 first_known known place count b total offset left chunk xs long is =
     let taken = lesser chunk left in
     let front = take chunk xs in
     let head = chunk_front b offset (length front) total in
-    let later = flat_map chunk_text (cut_into unsealed count b total (offset + length front) (drop chunk xs) chunk) in
+    let later = flat_map chunk_text (cut_into first_version count b total (offset + length front) (drop chunk xs) chunk) in
     let parts : ((head ++ []) ++ front) ++ later ≡ head ++ (front ++ later) =
     ap (λ t. (t ++ front) ++ later) (append-nil head) ∙ append_assoc head front later in
     let rest : ℕ = 48 * count + (left - taken) in
@@ -105,8 +107,8 @@ first_known known place count b total offset left chunk xs long is =
 
 known_at : (known : Known) (p : Piece) (place count b total offset left chunk : ℕ) (bytes : List ℕ) (c : Chunk) → offset + left ≤ length bytes
     → known_bytes known place (48 * count + left)
-    ≡ Some (flat_map chunk_text (cut_into unsealed count b total offset (take left (drop offset bytes)) chunk))
-    → Among c (chunks_at chunk_header chunk count p offset left place) → known_bytes known c.place c.len ≡ Some (take c.len (drop c.offset bytes))
+    ≡ Some (flat_map chunk_text (cut_into first_version count b total offset (take left (drop offset bytes)) chunk))
+    → Among c (chunks_at first_version chunk count p offset left place) → known_bytes known c.place c.len ≡ Some (take c.len (drop c.offset bytes))
 unfolding chunks_at
 known_at known p place zero b total offset left chunk bytes c within is among = absurd among
 known_at known p place (suc count) b total offset left chunk bytes c within is among =
@@ -122,26 +124,26 @@ known_at known p place (suc count) b total offset left chunk bytes c within is a
           let next : offset + length (take chunk xs) ≡ offset + taken = omega (arith, length-take chunk xs, long) in
           let back : drop chunk xs ≡ take (left - taken) (drop (offset + taken) bytes) =
           back_is chunk left (drop offset bytes) ∙ ap (take (left - taken)) (drop-drop taken offset bytes) in
-          let rest = parts.1 ∙ ap (λ n. Some (flat_map chunk_text (cut_into unsealed count b total n (drop chunk xs) chunk))) next
-          ∙ ap (λ t. Some (flat_map chunk_text (cut_into unsealed count b total (offset + taken) t chunk))) back in
+          let rest = parts.1 ∙ ap (λ n. Some (flat_map chunk_text (cut_into first_version count b total n (drop chunk xs) chunk))) next
+          ∙ ap (λ t. Some (flat_map chunk_text (cut_into first_version count b total (offset + taken) t chunk))) back in
           known_at known p (place + 48 + taken) count b total (offset + taken) (left - taken) chunk bytes c (omega (arith, within)) rest after
     ]
 
 -- where a zone of a part of a bitfile is known, so is each of its chunks
 pub chunk_known : (known : Known) (p : Piece) (epoch b total chunk : ℕ) (bytes : List ℕ) (c : Chunk) → p.offset + p.len ≤ length bytes
-    → known_bytes known p.zone (zone_length chunk_header chunk p.len)
-    ≡ Some (zone epoch (cut unsealed b total p.offset (take p.len (drop p.offset bytes)) chunk))
-    → Among c (chunks_of chunk_header chunk p) → known_bytes known c.place c.len ≡ Some (take c.len (drop c.offset bytes))
+    → known_bytes known p.zone (zone_length first_version chunk p.len)
+    ≡ Some (zone epoch (cut first_version b total p.offset (take p.len (drop p.offset bytes)) chunk))
+    → Among c (chunks_of first_version chunk p) → known_bytes known c.place c.len ≡ Some (take c.len (drop c.offset bytes))
 chunk_known known p epoch b total chunk bytes c within is among =
     let count : ℕ = chunk_count chunk p.len in
     let part = take p.len (drop p.offset bytes) in
     let long : length part ≡ p.len = omega (arith, length-take p.len (drop p.offset bytes), length-drop p.offset bytes, within) in
-    let chunks = cut unsealed b total p.offset part chunk in
+    let chunks = cut first_version b total p.offset part chunk in
     let head = zone_front epoch (length chunks) (zone_header + length (flat_map chunk_text chunks)) in
-    let whole : zone_length chunk_header chunk p.len ≡ 32 + (48 * count + p.len) = omega arith in
+    let whole : zone_length first_version chunk p.len ≡ 32 + (48 * count + p.len) = omega arith in
     let front = length-zone_front epoch (length chunks) (zone_header + length (flat_map chunk_text chunks)) in
     let behind =
     (known_parts known p.zone 32 (48 * count + p.len) head (flat_map chunk_text chunks) front
     (ap (known_bytes known p.zone) (sym whole) ∙ is)).1 in
-    let cut_same = ap (λ n. Some (flat_map chunk_text (cut_into unsealed (chunk_count chunk n) b total p.offset part chunk))) long in
+    let cut_same = ap (λ n. Some (flat_map chunk_text (cut_into first_version (chunk_count chunk n) b total p.offset part chunk))) long in
     known_at known p (p.zone + zone_header) count b total p.offset p.len chunk bytes c within (behind ∙ cut_same) among

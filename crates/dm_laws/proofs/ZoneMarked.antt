@@ -6,7 +6,8 @@ use Rattle.dm_base.specs.declared.volume.Chunk.{Chunk}
 use Rattle.dm_base.specs.declared.volume.Piece.{Piece}
 use Rattle.dm_rules.specs.Known.{Known, written, forgotten, known_bytes}
 use Rattle.dm_rules.proofs.Knowledge.{get-written_in, known_bytes-each}
-use Rattle.dm_rules.specs.Zone.{chunk_header, zone_length}
+use Rattle.dm_rules.specs.Zone.{zone_length}
+use Rattle.dm_rules.specs.Version.{first_version}
 use Rattle.dm_tables.specs.Rows.{EachRow, adjust}
 use Rattle.dm_tables.proofs.Orders.{numbers, paths}
 use Rattle.dm_tables.proofs.Rows.{inserted, removed}
@@ -57,7 +58,7 @@ known_here vsn place zone images is =
 -- what a piece has of the volume where its zone is known
 written_piece : (images : Named Image) (vsn : List ℕ) (place chunk : ℕ) (zone : List ℕ) (p : Piece) (w : WrittenZone) → p.vsn.0 ≡ vsn → p.zone ≡ place
     → w.zone ≡ zone
-    → length zone ≡ zone_length chunk_header chunk p.len → known_bytes (known_on images vsn) place (length zone) ≡ Some zone
+    → length zone ≡ zone_length first_version chunk p.len → known_bytes (known_on images vsn) place (length zone) ≡ Some zone
     → WrittenKept images chunk p w
 written_piece images vsn place chunk zone p w volume stands same len known = record {
   len = ap length same ∙ len;
@@ -71,7 +72,7 @@ written_piece images vsn place chunk zone p w volume stands same len known = rec
 -- places of a zone of a reservation's piece are the piece's
 piece_has : (reservations : Numbered Reserved) (n : ℕ) (r : Reserved) (i : ℕ) (p : Piece) (vsn : List ℕ) (long q : ℕ)
     → map.get reservations n ≡ Some r → piece_at i r.pieces ≡ Some p → p.vsn.0 ≡ vsn
-    → long ≡ zone_length chunk_header r.chunk p.len → p.zone ≤ q → q < p.zone + long → HasKept reservations n p.offset vsn q
+    → long ≡ zone_length first_version r.chunk p.len → p.zone ≤ q → q < p.zone + long → HasKept reservations n p.offset vsn q
 piece_has reservations n r i p vsn long q is at same len low high = record {
   reserved = r;
   is = is;
@@ -151,7 +152,7 @@ module _ (vsn : List ℕ) (place : ℕ) (zone : List ℕ) (b index : ℕ) (s : S
                 let piece = same_row (piece_at index r.pieces) fits.piece p mine (ap (λ j. piece_at j r.pieces) (sym new.0) ∙ at) in
                 subst (λ (x : Piece). WrittenKept images r.chunk x w) piece
                 (written_piece images vsn place r.chunk zone fits.piece w fits.volume fits.stands new.1
-                (fits.len ∙ ap (λ (x : Reserved). zone_length chunk_header x.chunk fits.piece.len) reserved) new.2)
+                (fits.len ∙ ap (λ (x : Reserved). zone_length first_version x.chunk fits.piece.len) reserved) new.2)
           ]
 
       module _ (f : CopyReservation → CopyReservation)

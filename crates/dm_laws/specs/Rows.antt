@@ -6,8 +6,8 @@ use Rattle.dm_base.specs.declared.volume.Chunk.{Chunk}
 use Rattle.dm_base.specs.declared.volume.Piece.{Piece}
 use Rattle.dm_rules.specs.Known.{known_bytes}
 use Rattle.dm_rules.specs.Label.{first_zone}
-use Rattle.dm_rules.specs.Plan.{zone_end}
-use Rattle.dm_rules.specs.Zone.{chunk_header}
+use Rattle.dm_parts.specs.FirstVersion.{zone_end}
+use Rattle.dm_rules.specs.Version.{first_version}
 use Rattle.dm_state.specs.Tables.{Numbered, Named}
 use Rattle.dm_state.specs.Entries.{is_stored}
 use Rattle.dm_state.specs.declared.daemon.Contents.{Contents}
@@ -82,7 +82,7 @@ pub record ChunkCovers (c : Chunk) (vsn : List ℕ) (place : ℕ) : Type 0 where
 pub record PieceCovers (chunk : ℕ) (p : Piece) (vsn : List ℕ) (place : ℕ) : Type 0 where
   pub same : p.vsn.0 ≡ vsn
   pub low : p.zone ≤ place
-  pub high : place < zone_end chunk_header chunk p
+  pub high : place < zone_end first_version chunk p
 
 -- a chunk of a stored bitfile lies behind the label of a volume that isn't held, before its end
 pub record LiesBefore (volumes : Named VolumeRow) (c : Chunk) : Type 0 where
@@ -98,7 +98,7 @@ pub record ZoneInHand (volumes : Named VolumeRow) (tips : Named ℕ) (chunk : �
   pub is : map.get volumes p.vsn.0 ≡ Some volume
   pub usable : volume.held ≡ None
   pub behind : first_zone ≤ p.zone
-  pub within : zone_end chunk_header chunk p ≤ tip_or (map.get tips p.vsn.0) volume
+  pub within : zone_end first_version chunk p ≤ tip_or (map.get tips p.vsn.0) volume
 
 -- a chunk's bytes are known and are its part of the bitfile
 abbrev pub ChunkKnown : Named Image → List ℕ → Chunk → Type 0

@@ -54,12 +54,13 @@ abbrev pub inode_bytes : Joint → Option Inode → List ℕ
 inode_bytes j None = []
 inode_bytes j (Some i) = file_bytes j i.contents
 
--- the files of a joint state, and its time. The machine has no dumps yet
+-- the files of a joint state, its time, and the age that it is configured with. The machine has no dumps yet
 abbrev pub plain_of : Joint → Namespace
 plain_of j = record {
   files = map_values (λ path n. inode_bytes j (map.get j.daemon.tables.inodes n.0)) j.daemon.tables.names;
   dumps = map.empty;
   now = j.daemon.tables.time.0;
+  age = j.daemon.age;
 }
 
 -- ---- the plain steps of a run

@@ -17,8 +17,8 @@ use Rattle.dm_tables.proofs.Sums.{total-entries}
 use Rattle.dm_parts.specs.declared.state.Group.{Group}
 use Rattle.dm_parts.specs.Laid.{IsOpen}
 use Rattle.dm_parts.specs.Volumes.{same_text, space_if, spaces, of_serial, volume_row, all_volumes, chunk_at, live_in, live_on, free_slot}
-use Rattle.dm_rules.specs.Room.{room, held}
-use Rattle.dm_rules.specs.Zone.{chunk_header}
+use Rattle.dm_rules.specs.Room.{room, most_bytes}
+use Rattle.dm_rules.specs.Version.{first_version}
 use Rattle.dm_zone.proofs.RoomLemmas.{room_none, room_some, room_fits}
 
 abbrev pub spaces_in : Group → List (List ℕ × VolumeRow) → List Space
@@ -134,19 +134,19 @@ pub told_end : (group : Group) (out : List VolRow) (left : List (List ℕ × Vol
 told_end group out left none so = sym (append-nil out) ∙ sym (ap (λ es. out ++ rows_in group es) none) ∙ so.is
 
 -- ---- room
-no_room : (size tip : ℕ) → room 48 size tip 0 ≡ 0
+no_room : (size tip : ℕ) → room first_version size tip 0 ≡ 0
 no_room size tip =
     elim (cases_lt (size - tip) 32) [
-      | inl l ↦ room_none size tip 0 l
-      | inr g ↦ room_some size tip 0 g ∙ no_held (size - tip - 32)
+      | inl l ↦ room_none first_version size tip 0 l
+      | inr g ↦ room_some first_version size tip 0 g ∙ no_held (size - tip - 32)
     ]
   where
-    no_held : (left : ℕ) → held 48 left 0 ≡ 0
+    no_held : (left : ℕ) → most_bytes 48 left 0 ≡ 0
     no_held left =
         let e : left % (48 + 0) ≤ 48 = omega arith in
         rw (le-ltb 48 (left % (48 + 0)) e) (omega arith)
 
-pub open_room : (s : Space) (size chunk : ℕ) → s.room ≡ room chunk_header size s.tip chunk → size < 18446744073709551616 → IsOpen chunk s
+pub open_room : (s : Space) (size chunk : ℕ) → s.room ≡ room first_version size s.tip chunk → size < 18446744073709551616 → IsOpen chunk s
 open_room s size zero is small = record {
   some = λ some. absurd (omega (arith, is, no_room size s.tip));
   zone = λ some. absurd (omega (arith, is, no_room size s.tip));
@@ -155,10 +155,10 @@ open_room s size (suc n) is small =
     elim (cases_lt (size - s.tip) 32) [
       | inl l ↦ record {
         some = λ some. omega arith;
-        zone = λ some. absurd (omega (arith, is, room_none size s.tip (suc n) l));
+        zone = λ some. absurd (omega (arith, is, room_none first_version size s.tip (suc n) l));
       }
       | inr g ↦ record {
         some = λ some. omega arith;
-        zone = λ some. omega (arith, g, small, room_fits size s.tip (suc n) s.room g (is ∙ room_some size s.tip (suc n) g) (omega arith));
+        zone = λ some. omega (arith, g, small, room_fits first_version size s.tip (suc n) s.room g (is ∙ room_some first_version size s.tip (suc n) g) (omega arith));
       }
     ]

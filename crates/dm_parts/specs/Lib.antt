@@ -1,3 +1,4 @@
+pub mod FirstVersion
 pub mod Tests
 pub mod Plan
 pub mod Files

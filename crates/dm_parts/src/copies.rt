@@ -65,6 +65,7 @@ pub fn copied_conf(alloc: Global, conf: &GroupConf) -> Result<GroupConf, NoMemor
         hold: conf.hold,
         volumes: conf.volumes.copied(alloc)?,
         size: conf.size,
+        format: conf.format,
     })
 }
 

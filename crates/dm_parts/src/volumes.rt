@@ -10,7 +10,7 @@ ghost use Rattle.dm_parts.specs.Volumes.{all_volumes as volumes_of, chunk_at as 
 
 use crate::state::{Group, Mounted};
 use dm_base::{Chunk, Listed, NoMemory, Secs, VolRow, VolState, Vsn};
-use dm_rules::{FIRST_ZONE, Space};
+use dm_rules::{FIRST_VERSION, FIRST_ZONE, Space};
 use dm_state::{BitfileRow, VolumeRow};
 use dm_tables::{Numbers, Test, Texts};
 use dm_zone::room;
@@ -44,7 +44,12 @@ impl Group {
     fn room_of(&self, vsn: &[u8], row: &VolumeRow) -> u64
         ensures { result ≡ room_in self.now vsn.now row.now }
     {
-        room(row.size, self.tip_of(vsn, row), self.conf.chunk)
+        room(
+            FIRST_VERSION,
+            row.size,
+            self.tip_of(vsn, row),
+            self.conf.chunk,
+        )
     }
 
     /// The volumes that may take pieces, by ascending serial number; `NoMemory` where memory is refused (docs/DEFINITIONS.md,
@@ -73,8 +78,13 @@ impl Group {
         let vsn = serial(text)?;
         let size = row.size;
         let tip = self.tip_of(text, row);
-        let room = room(size, tip, self.conf.chunk);
-        Some(Space { vsn, tip, room })
+        let room = room(FIRST_VERSION, size, tip, self.conf.chunk);
+        Some(Space {
+            vsn,
+            version: FIRST_VERSION,
+            tip,
+            room,
+        })
     }
 
     /// What a user is told of the volumes; `NoMemory` where memory is refused (docs/DEFINITIONS.md, "The joint machine").

@@ -1,25 +1,28 @@
 -- What stands in a namespace after a step.
-use Rattle.std.proofs.Common.{◌≡◌, ◌≢◌, ℕ, List, Option, Some, None, refl, ap, ◌∙◌}
+use Rattle.std.proofs.Common.{◌≡◌, ◌≢◌, ◌⊎◌, inl, inr, ℕ, ◌≤◌, arith, List, Option, Some, None, refl, ap, ◌∙◌}
 use Rattle.std.specs.Cmp.Lexicographic.{slice_cmp}
 use Rattle.std.specs.Ordering.{nat_cmp}
 use Rattle.std.specs.Option.{option_and_then, option_map, option_map_or}
 use Rattle.std.specs.FinMap.{get, get-empty}
+use Rattle.std.proofs.lemmas.Bool.{cases_lt}
+use Rattle.dm_tables.proofs.Orders.{paths}
+use Rattle.dm_tables.proofs.Adjusted.{get-mapped}
 use Rattle.dm_plain.specs.declared.step.PlainStep.{PlainStep}
-use Rattle.dm_plain.specs.declared.step.PlainStep.TheVariants.{Write, Patch, Remove, Dump, Undump, Restore, Time}
-use Rattle.dm_plain.specs.Namespace.{Namespace, Files, Dumps, no_files, written, bytes_of, bytes_in, dump_of}
+use Rattle.dm_plain.specs.declared.step.PlainStep.TheVariants.{Write, Patch, Remove, Dump, Undump, Restore, Age, Time}
+use Rattle.dm_plain.specs.Namespace.{Namespace, Files, Dumped, Dumps, no_files, written, bytes_of, bytes_in, dump_of}
 use Rattle.dm_plain.specs.Patching.{patched}
-use Rattle.dm_plain.specs.Steps.{after, bytes_dumped, copy_of, range_replaced, restored, with_dump, without_dump, without_file}
+use Rattle.dm_plain.specs.Steps.{after, bytes_dumped, copy_of, range_replaced, lowered, restored, with_age, with_dump, without_dump, without_file}
 use Rattle.dm_plain.proofs.Entries.{get-insert_same, get-insert_other, get-remove_same, get-remove_other, remove_absent}
 
 -- ---- the beginning
 
-pub bytes_of-no_files : (path : List ℕ) → bytes_of path no_files ≡ None
+pub bytes_of-no_files : (age : ℕ) (path : List ℕ) → bytes_of path (no_files age) ≡ None
 unfolding bytes_of no_files
-bytes_of-no_files path = get-empty (slice_cmp nat_cmp) path
+bytes_of-no_files age path = get-empty (slice_cmp nat_cmp) path
 
-pub dump_of-no_files : (name : List ℕ) → dump_of name no_files ≡ None
+pub dump_of-no_files : (age : ℕ) (name : List ℕ) → dump_of name (no_files age) ≡ None
 unfolding dump_of no_files
-dump_of-no_files name = get-empty (slice_cmp nat_cmp) name
+dump_of-no_files age name = get-empty (slice_cmp nat_cmp) name
 
 -- ---- what a file holds
 
@@ -100,6 +103,43 @@ pub bytes_dumped-with_dump : (name path : List ℕ) (ns : Namespace) → bytes_d
 unfolding bytes_dumped
 bytes_dumped-with_dump name path ns = ap (option_and_then (bytes_in path)) (dump_of-with_dump-same name ns) ∙ bytes_in-copy_of path ns
 
+-- and the least age in force since then is that of its making
+pub least-copy_of : (ns : Namespace) → (copy_of ns).least ≡ ns.age
+unfolding copy_of
+least-copy_of ns = refl
+
+-- ---- the age in force
+
+pub age-with_age : (age : ℕ) (ns : Namespace) → (with_age age ns).age ≡ age
+unfolding with_age
+age-with_age age ns = refl
+
+-- each dump is the one that it was, with its least age lowered
+pub dump_of-with_age : (age : ℕ) (name : List ℕ) (ns : Namespace) → dump_of name (with_age age ns) ≡ option_map (lowered age) (dump_of name ns)
+unfolding dump_of with_age
+dump_of-with_age age name ns = get-mapped paths (λ name. lowered age) ns.dumps name
+
+pub least-lowered : (age : ℕ) (dump : Dumped) → ((lowered age dump).least ≤ age) × ((lowered age dump).least ≤ dump.least) × (((lowered age dump).least ≡ age) ⊎ ((lowered age dump).least ≡ dump.least))
+unfolding lowered
+least-lowered age dump = (omega arith, omega arith, elim (cases_lt dump.least age) [ inl below ↦ inr (omega arith) | inr above ↦ inl (omega arith) ])
+
+pub made-lowered : (age : ℕ) (dump : Dumped) → (lowered age dump).made ≡ dump.made
+unfolding lowered
+made-lowered age dump = refl
+
+pub bytes_in-lowered : (age : ℕ) (path : List ℕ) (dump : Dumped) → bytes_in path (lowered age dump) ≡ bytes_in path dump
+unfolding bytes_in lowered
+bytes_in-lowered age path dump = refl
+
+-- so no file of a dump is another
+pub bytes_dumped-with_age : (age : ℕ) (name path : List ℕ) (ns : Namespace) → bytes_dumped name path (with_age age ns) ≡ bytes_dumped name path ns
+unfolding bytes_dumped
+bytes_dumped-with_age age name path ns =
+    ap (option_and_then (bytes_in path)) (dump_of-with_age age name ns) ∙ elim (dump_of name ns) as (λ o. option_and_then (bytes_in path) (option_map (lowered age) o) ≡ option_and_then (bytes_in path) o) [
+      | None ↦ refl
+      | Some dump ↦ bytes_in-lowered age path dump
+    ]
+
 -- ---- what isn't there is not changed
 
 pub range_replaced-absent : (path : List ℕ) (offset : ℕ) (bytes : List ℕ) (ns : Namespace) → bytes_of path ns ≡ None → range_replaced path offset bytes ns ≡ ns
@@ -132,11 +172,24 @@ ChangesFiles _ = ⊥
 abbrev pub ChangesDumps : PlainStep → Type 0
 ChangesDumps (Dump name) = Unit {0}
 ChangesDumps (Undump name) = Unit {0}
+ChangesDumps (Age age) = Unit {0}
 ChangesDumps _ = ⊥
 
 abbrev pub ChangesTime : PlainStep → Type 0
 ChangesTime (Time now) = Unit {0}
 ChangesTime _ = ⊥
+
+abbrev pub ChangesAge : PlainStep → Type 0
+ChangesAge (Age age) = Unit {0}
+ChangesAge _ = ⊥
+
+written-age : (path bytes : List ℕ) (ns : Namespace) → (written path bytes ns).age ≡ ns.age
+unfolding written
+written-age path bytes ns = refl
+
+age_chosen : (f : List ℕ → Namespace) (o : Option (List ℕ)) (ns : Namespace) → ((b : List ℕ) → (f b).age ≡ ns.age) → (option_map_or f o ns).age ≡ ns.age
+age_chosen f None ns same = refl
+age_chosen f (Some b) ns same = same b
 
 -- a write leaves the dumps and the time
 written-keeps : (path bytes : List ℕ) (ns : Namespace) → ((written path bytes ns).dumps ≡ ns.dumps) × ((written path bytes ns).now ≡ ns.now)
@@ -158,13 +211,14 @@ restored-keeps name path target ns = same_chosen (λ bytes. written target bytes
 
 -- nothing but `Write`, `Patch`, `Remove` and `Restore` changes files
 pub files-after : (step : PlainStep) (ns : Namespace) → (ChangesFiles step → ⊥) → (after step ns).files ≡ ns.files
-unfolding with_dump without_dump
+unfolding with_dump without_dump with_age
 files-after (Write path bytes) ns still = absurd (still tt)
 files-after (Patch path offset bytes) ns still = absurd (still tt)
 files-after (Remove path) ns still = absurd (still tt)
 files-after (Dump name) ns still = refl
 files-after (Undump name) ns still = refl
 files-after (Restore name path target) ns still = absurd (still tt)
+files-after (Age age) ns still = refl
 files-after (Time now) ns still = refl
 
 -- a dump is changed by no other step: not by what is done to the files later
@@ -176,18 +230,32 @@ dumps-after (Remove path) ns still = refl
 dumps-after (Dump name) ns still = absurd (still tt)
 dumps-after (Undump name) ns still = absurd (still tt)
 dumps-after (Restore name path target) ns still = (restored-keeps name path target ns).0
+dumps-after (Age age) ns still = absurd (still tt)
 dumps-after (Time now) ns still = refl
 
 -- nor is the time, but by `Time`
 pub now-after : (step : PlainStep) (ns : Namespace) → (ChangesTime step → ⊥) → (after step ns).now ≡ ns.now
-unfolding without_file with_dump without_dump
+unfolding without_file with_dump without_dump with_age
 now-after (Write path bytes) ns still = (written-keeps path bytes ns).1
 now-after (Patch path offset bytes) ns still = (range_replaced-keeps path offset bytes ns).1
 now-after (Remove path) ns still = refl
 now-after (Dump name) ns still = refl
 now-after (Undump name) ns still = refl
 now-after (Restore name path target) ns still = (restored-keeps name path target ns).1
+now-after (Age age) ns still = refl
 now-after (Time now) ns still = absurd (still tt)
+
+-- nor is the age, but by `Age`
+pub age-after : (step : PlainStep) (ns : Namespace) → (ChangesAge step → ⊥) → (after step ns).age ≡ ns.age
+unfolding without_file with_dump without_dump range_replaced restored
+age-after (Write path bytes) ns still = written-age path bytes ns
+age-after (Patch path offset bytes) ns still = age_chosen (λ old. written path (patched offset bytes old) ns) (bytes_of path ns) ns (λ old. written-age path (patched offset bytes old) ns)
+age-after (Remove path) ns still = refl
+age-after (Dump name) ns still = refl
+age-after (Undump name) ns still = refl
+age-after (Restore name path target) ns still = age_chosen (λ bytes. written target bytes ns) (bytes_dumped name path ns) ns (λ bytes. written-age target bytes ns)
+age-after (Age age) ns still = absurd (still tt)
+age-after (Time now) ns still = refl
 
 pub bytes_of-after : (step : PlainStep) (path : List ℕ) (ns : Namespace) → (ChangesFiles step → ⊥) → bytes_of path (after step ns) ≡ bytes_of path ns
 unfolding bytes_of

@@ -1,87 +1,93 @@
--- Namespaces and dumps whose maps are kept in entries.
+-- Namespaces and dumps whose files are kept in entries.
 use Rattle.std.proofs.Common.{◌≡◌, ℕ, List, [], Option, Some, None, cond, ap, sym, ◌∙◌}
 use Rattle.std.specs.Ordering.{nat_cmp}
 use Rattle.std.specs.Cmp.Lexicographic.{slice_cmp}
 use Rattle.std.specs.Option.{option_and_then, option_map_or}
 use Rattle.std.specs.BTreeMap.{is_at}
-use Rattle.std.specs.FinMap.{from_entries, insert}
+use Rattle.std.specs.FinMap.{empty, from_entries, get, insert, remove}
+use Rattle.dm_tables.specs.Rows.{map_values}
 use Rattle.dm_plain.specs.Namespace.{Namespace, Dumped, Files, Dumps, no_files, written, bytes_of, bytes_in, dump_of}
 use Rattle.dm_plain.specs.Patching.{patched}
-use Rattle.dm_plain.specs.Steps.{bytes_dumped, copy_of, range_replaced, restored, with_dump, without_dump, without_file}
+use Rattle.dm_plain.specs.Steps.{bytes_dumped, copy_of, lowered, range_replaced, restored, with_age, with_dump, without_dump, without_file}
 use Rattle.dm_plain.proofs.Entries.{entry_at, get-entries_at, one_inserted, one_removed, insert_same}
 
 abbrev pub Held : Type 0
 Held = List (List ℕ × List ℕ)
 
-abbrev pub Kept : Type 0
-Kept = List (List ℕ × Dumped)
-
--- what is kept in entries, with a time
-abbrev pub namespace : Held → Kept → ℕ → Namespace
-namespace es ds t = record { files = from_entries es; dumps = from_entries ds; now = t }
+-- files that are kept in entries, with dumps, a time and an age
+abbrev pub namespace : Held → Dumps → ℕ → ℕ → Namespace
+namespace es dumps t age = record { files = from_entries es; dumps = dumps; now = t; age = age }
 
 -- a file holds what the entries have at its path
-pub bytes_of_entries : (es : Held) (ds : Kept) (t : ℕ) (path : List ℕ) → bytes_of path (namespace es ds t) ≡ entry_at es path
+pub bytes_of_entries : (es : Held) (dumps : Dumps) (t age : ℕ) (path : List ℕ) → bytes_of path (namespace es dumps t age) ≡ entry_at es path
 unfolding bytes_of
-bytes_of_entries es ds t path = get-entries_at es path
+bytes_of_entries es dumps t age path = get-entries_at es path
 
-pub dump_of_entries : (es : Held) (ds : Kept) (t : ℕ) (name : List ℕ) → dump_of name (namespace es ds t) ≡ entry_at ds name
-unfolding dump_of
-dump_of_entries es ds t name = get-entries_at ds name
-
-pub bytes_in_entries : (es : Held) (t : ℕ) (path : List ℕ) → bytes_in path (record { made = t; files = from_entries es }) ≡ entry_at es path
+pub bytes_in_entries : (es : Held) (t least : ℕ) (path : List ℕ) → bytes_in path (record { made = t; least = least; files = from_entries es }) ≡ entry_at es path
 unfolding bytes_in
-bytes_in_entries es t path = get-entries_at es path
+bytes_in_entries es t least path = get-entries_at es path
 
--- entries that differ at one path are a write there
-pub one_written : (es fs : Held) (ds : Kept) (t : ℕ) (path bytes : List ℕ) → ((q : List ℕ) → entry_at fs q ≡ cond (is_at (slice_cmp nat_cmp path) q) (Some bytes) (entry_at es q)) → namespace fs ds t ≡ written path bytes (namespace es ds t)
-unfolding written
-one_written es fs ds t path bytes h = ap (λ (files : Files). let ns : Namespace = record { files = files; dumps = from_entries ds; now = t } in ns) (one_inserted es fs path bytes h)
+module _ (es fs : Held) (dumps : Dumps) (t age : ℕ) (path : List ℕ) where
+  abbrev ns : Namespace
+  ns = namespace es dumps t age
 
--- or a file less
-pub one_file_less : (es fs : Held) (ds : Kept) (t : ℕ) (path : List ℕ) → ((q : List ℕ) → entry_at fs q ≡ cond (is_at (slice_cmp nat_cmp path) q) None (entry_at es q)) → namespace fs ds t ≡ without_file path (namespace es ds t)
-unfolding without_file
-one_file_less es fs ds t path h = ap (λ (files : Files). let ns : Namespace = record { files = files; dumps = from_entries ds; now = t } in ns) (one_removed es fs path h)
+  with_files : Files → Namespace
+  with_files files = record { files = files; dumps = dumps; now = t; age = age }
 
--- dumps that differ at one name, where they have a copy of the files
-pub one_dumped : (es : Held) (ds gs : Kept) (t : ℕ) (name : List ℕ) (dump : Dumped) → dump ≡ record { made = t; files = from_entries es } → ((q : List ℕ) → entry_at gs q ≡ cond (is_at (slice_cmp nat_cmp name) q) (Some dump) (entry_at ds q)) → namespace es gs t ≡ with_dump name (namespace es ds t)
+  -- entries that differ at one path are a write there
+  pub one_written : (bytes : List ℕ) → ((q : List ℕ) → entry_at fs q ≡ cond (is_at (slice_cmp nat_cmp path) q) (Some bytes) (entry_at es q)) → namespace fs dumps t age ≡ written path bytes (namespace es dumps t age)
+  unfolding written with_files
+  one_written bytes h = ap with_files (one_inserted es fs path bytes h)
+
+  -- or a file less
+  pub one_file_less : ((q : List ℕ) → entry_at fs q ≡ cond (is_at (slice_cmp nat_cmp path) q) None (entry_at es q)) → namespace fs dumps t age ≡ without_file path (namespace es dumps t age)
+  unfolding without_file with_files
+  one_file_less h = ap with_files (one_removed es fs path h)
+
+  -- a file that has other bytes, which are its old ones with a range replaced
+  pub one_replaced : (offset : ℕ) (bytes old new : List ℕ) → Some old ≡ entry_at es path → new ≡ patched offset bytes old → ((q : List ℕ) → entry_at fs q ≡ cond (is_at (slice_cmp nat_cmp path) q) (Some new) (entry_at es q)) → namespace fs dumps t age ≡ range_replaced path offset bytes (namespace es dumps t age)
+  unfolding range_replaced
+  one_replaced offset bytes old new there is h =
+      one_written new h ∙ ap (λ (b : List ℕ). written path b ns) is
+      ∙ ap (λ (o : Option (List ℕ)). option_map_or (λ old. written path (patched offset bytes old) ns) o ns) (there ∙ sym (bytes_of_entries es dumps t age path))
+
+  -- a file that has its old bytes
+  pub one_kept : (old new : List ℕ) → Some old ≡ entry_at es path → new ≡ old → ((q : List ℕ) → entry_at fs q ≡ cond (is_at (slice_cmp nat_cmp path) q) (Some new) (entry_at es q)) → namespace fs dumps t age ≡ namespace es dumps t age
+  unfolding with_files
+  one_kept old new there is h =
+      ap with_files (one_inserted es fs path new h ∙ insert_same (from_entries es) path new (get-entries_at es path ∙ sym there ∙ ap Some (sym is)))
+
+-- one dump more, which has a copy of the files
+pub one_dumped : (ns : Namespace) (dumps : Dumps) (name : List ℕ) (dump : Dumped) → dump ≡ record { made = ns.now; least = ns.age; files = ns.files } → dumps ≡ insert ns.dumps name dump
+    → (let to : Namespace = record ns { dumps = dumps } in to) ≡ with_dump name ns
 unfolding with_dump copy_of
-one_dumped es ds gs t name dump is h =
-    ap (λ (dumps : Dumps). let ns : Namespace = record { files = from_entries es; dumps = dumps; now = t } in ns)
-    (one_inserted ds gs name dump h ∙ ap (λ (d : Dumped). insert (from_entries ds) name d) is)
+one_dumped ns dumps name dump is put =
+    ap (λ (all : Dumps). let to : Namespace = record ns { dumps = all } in to) (put ∙ ap (λ (d : Dumped). insert ns.dumps name d) is)
 
--- or a dump less
-pub one_dump_less : (es : Held) (ds gs : Kept) (t : ℕ) (name : List ℕ) → ((q : List ℕ) → entry_at gs q ≡ cond (is_at (slice_cmp nat_cmp name) q) None (entry_at ds q)) → namespace es gs t ≡ without_dump name (namespace es ds t)
+-- or one less
+pub one_dump_less : (ns : Namespace) (dumps : Dumps) (name : List ℕ) → dumps ≡ remove ns.dumps name → (let to : Namespace = record ns { dumps = dumps } in to) ≡ without_dump name ns
 unfolding without_dump
-one_dump_less es ds gs t name h = ap (λ (dumps : Dumps). let ns : Namespace = record { files = from_entries es; dumps = dumps; now = t } in ns) (one_removed ds gs name h)
+one_dump_less ns dumps name is = ap (λ (all : Dumps). let to : Namespace = record ns { dumps = all } in to) is
+
+-- each of them under another age
+pub one_aged : (ns : Namespace) (dumps : Dumps) (age : ℕ) → dumps ≡ map_values (λ name. lowered age) ns.dumps → (let to : Namespace = record ns { dumps = dumps; age = age } in to) ≡ with_age age ns
+unfolding with_age
+one_aged ns dumps age is = ap (λ (all : Dumps). let to : Namespace = record ns { dumps = all; age = age } in to) is
 
 -- no entries are no files
-pub no_entries : (es : Held) (ds : Kept) → es ≡ [] → ds ≡ [] → namespace es ds 0 ≡ no_files
+pub no_entries : (es : Held) (dumps : Dumps) (age : ℕ) → es ≡ [] → dumps ≡ empty → namespace es dumps 0 age ≡ no_files age
 unfolding no_files
-no_entries es ds none empty = ap (λ (xs : Held). namespace xs ds 0) none ∙ ap (λ (xs : Kept). namespace [] xs 0) empty
-
--- a file that has other bytes, which are its old ones with a range replaced
-pub one_replaced : (es fs : Held) (ds : Kept) (t : ℕ) (path : List ℕ) (offset : ℕ) (bytes old new : List ℕ) → Some old ≡ entry_at es path → new ≡ patched offset bytes old → ((q : List ℕ) → entry_at fs q ≡ cond (is_at (slice_cmp nat_cmp path) q) (Some new) (entry_at es q)) → namespace fs ds t ≡ range_replaced path offset bytes (namespace es ds t)
-unfolding range_replaced
-one_replaced es fs ds t path offset bytes old new there is h =
-    let ns : Namespace = namespace es ds t in
-    one_written es fs ds t path new h ∙ ap (λ (b : List ℕ). written path b ns) is
-    ∙ ap (λ (o : Option (List ℕ)). option_map_or (λ old. written path (patched offset bytes old) ns) o ns) (there ∙ sym (bytes_of_entries es ds t path))
+no_entries es dumps age none bare = ap (λ (xs : Held). namespace xs dumps 0 age) none ∙ ap (λ (all : Dumps). namespace [] all 0 age) bare
 
 -- no file, and none that has a range replaced
 pub none_replaced : (path : List ℕ) (offset : ℕ) (bytes : List ℕ) (ns : Namespace) → bytes_of path ns ≡ None → ns ≡ range_replaced path offset bytes ns
 unfolding range_replaced
 none_replaced path offset bytes ns absent = ap (λ (o : Option (List ℕ)). option_map_or (λ old. written path (patched offset bytes old) ns) o ns) (sym absent)
 
--- a file that has its old bytes
-pub one_kept : (es fs : Held) (ds : Kept) (t : ℕ) (path old new : List ℕ) → Some old ≡ entry_at es path → new ≡ old → ((q : List ℕ) → entry_at fs q ≡ cond (is_at (slice_cmp nat_cmp path) q) (Some new) (entry_at es q)) → namespace fs ds t ≡ namespace es ds t
-one_kept es fs ds t path old new there is h =
-    ap (λ (files : Files). let ns : Namespace = record { files = files; dumps = from_entries ds; now = t } in ns)
-    (one_inserted es fs path new h ∙ insert_same (from_entries es) path new (get-entries_at es path ∙ sym there ∙ ap Some (sym is)))
-
-pub bytes_dumped_entries : (es : Held) (ds : Kept) (t : ℕ) (name path : List ℕ) → bytes_dumped name path (namespace es ds t) ≡ option_and_then (bytes_in path) (entry_at ds name)
-unfolding bytes_dumped
-bytes_dumped_entries es ds t name path = ap (option_and_then (bytes_in path)) (dump_of_entries es ds t name)
+-- a file of a dump, looked up in the dumps
+pub dumped_found : (name path : List ℕ) (found : Option Dumped) (all : Namespace) → found ≡ get all.dumps name → option_and_then (bytes_in path) found ≡ bytes_dumped name path all
+unfolding bytes_dumped dump_of
+dumped_found name path found all is = ap (option_and_then (bytes_in path)) is
 
 pub restored_bytes : (name path target bytes : List ℕ) (ns : Namespace) → Some bytes ≡ bytes_dumped name path ns → written target bytes ns ≡ restored name path target ns
 unfolding restored

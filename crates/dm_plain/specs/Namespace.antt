@@ -17,13 +17,16 @@ files_code = map.code (coded_list coded_ℕ) (coded_list coded_ℕ)
 abbrev pub files_in : BTreeMap (List ℕ) (List ℕ) → Files
 files_in table = map.from_entries table.entries
 
--- a dump: when it was made, and the files as they were then
+-- a dump: when it was made, the least age in force since then, and the files as they were then
 pub record Dumped : Type 0 where
   pub made : ℕ
+  pub least : ℕ
   pub files : Files
 
 abbrev pub dumped_code : Coded Dumped
-dumped_code = code_by (ℕ × Files) (coded× coded_ℕ files_code) (λ d. (d.made, d.files)) (λ p. record { made = p.0; files = p.1 }) (λ _. refl)
+dumped_code =
+    code_by (ℕ × (ℕ × Files)) (coded× coded_ℕ (coded× coded_ℕ files_code)) (λ d. (d.made, (d.least, d.files)))
+    (λ p. record { made = p.0; least = p.1.0; files = p.1.1 }) (λ _. refl)
 
 -- the dumps: what the bytes of a name lead to
 abbrev pub Dumps : Type 0
@@ -35,17 +38,18 @@ dumps_code = map.code (coded_list coded_ℕ) dumped_code
 pub record Namespace : Type 0 where
   pub files : Files
   pub dumps : Dumps
-  pub now : ℕ
+  pub now : ℕ  -- the time
+  pub age : ℕ  -- the age in force, after which a deleted file may be let go for good
 
--- a namespace is stored as its files, its dumps and its time
+-- a namespace is stored as its files, its dumps, its time and its age
 abbrev pub namespace_code : Coded Namespace
 namespace_code =
-    code_by (Files × (Dumps × ℕ)) (coded× files_code (coded× dumps_code coded_ℕ)) (λ ns. (ns.files, (ns.dumps, ns.now)))
-    (λ p. record { files = p.0; dumps = p.1.0; now = p.1.1 }) (λ _. refl)
+    code_by (Files × (Dumps × (ℕ × ℕ))) (coded× files_code (coded× dumps_code (coded× coded_ℕ coded_ℕ))) (λ ns. (ns.files, (ns.dumps, (ns.now, ns.age))))
+    (λ p. record { files = p.0; dumps = p.1.0; now = p.1.1.0; age = p.1.1.1 }) (λ _. refl)
 
--- no file, no dump, and the time 0
-unfoldable pub no_files : Namespace
-no_files = record { files = map.empty; dumps = map.empty; now = 0 }
+-- no file, no dump, the time 0, and this age
+unfoldable pub no_files : ℕ → Namespace
+no_files age = record { files = map.empty; dumps = map.empty; now = 0; age = age }
 
 -- what a file holds, if it is there
 unfoldable pub bytes_of : List ℕ → Namespace → Option (List ℕ)

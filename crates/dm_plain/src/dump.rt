@@ -1,10 +1,12 @@
-//! A copy of all files, as they were at a time.
+//! A copy of all files, as they were at a time, with the least age in force since then.
 
 ghost use Rattle.std.specs.Prelude.{◌≡◌, IfOk};
 ghost use Rattle.std.specs.Option.{option_copied};
 ghost use Rattle.dm_plain.specs.Namespace.{bytes_in, files_in};
+ghost use Rattle.dm_plain.specs.Steps.{lowered};
 
 use dm_base::{Bytes, NoMemory, Path, Secs};
+use dm_rows::Edit;
 use std::alloc::Global;
 use std::collections::BTreeMap;
 use std::marker::Model;
@@ -13,6 +15,7 @@ use std::marker::Model;
 #[derive(Drop)]
 pub(crate) struct Dump {
     made: Secs,
+    least: u64,
     files: BTreeMap<Path, Bytes>,
 }
 
@@ -24,22 +27,31 @@ impl Model for Dump {
 
     ghost coded = { dumped_code };
 
-    ghost view = { λ d. record { made = d.made.0; files = map.from_entries d.files.entries } };
+    ghost view = { λ d. record { made = d.made.0; least = d.least; files = map.from_entries d.files.entries } };
 }
 
 impl Dump {
-    /// A dump of these files, made at a time.
+    /// A dump of these files, made at a time under an age.
     pub(crate) fn of_files(
         alloc: Global,
         made: Secs,
+        age: u64,
         files: &BTreeMap<Path, Bytes>,
     ) -> Result<Dump, NoMemory>
-        ensures { IfOk result (λ dump. dump ≡ record { made = made.0; files = files_in files.now }) }
+        ensures { IfOk result (λ dump. dump ≡ record { made = made.0; least = age; files = files_in files.now }) }
     {
         Ok(Dump {
             made,
+            least: age,
             files: copied_files(alloc, files)?,
         })
+    }
+
+    // Lowers the least age to this one, where it is greater.
+    fn lower(&mut self, age: u64)
+        ensures { self.new ≡ lowered age self.old }
+    {
+        self.least = self.least.min(age);
     }
 
     /// The bytes of a file, or none where the dump hasn't it.
@@ -47,6 +59,18 @@ impl Dump {
         ensures { option_copied result ≡ bytes_in path.now self.now }
     {
         self.files.get(path)
+    }
+}
+
+/// An age that comes into force, as a change of each dump.
+#[derive(Drop)]
+pub(crate) struct NewAge(pub(crate) u64);
+
+impl Edit<Dump> for NewAge {
+    ghost edited = { λ new. lowered new.0 };
+
+    fn edit(&self, row: &mut Dump) {
+        row.lower(self.0);
     }
 }
 

@@ -1,24 +1,27 @@
-//! The files, the dumps and the time of a plain namespace.
+//! The files, the dumps, the time and the age of a plain namespace.
 
 ghost use Rattle.std.specs.Prelude.{◌≡◌, ◌+◌, ◌≤◌, length, OnErr, OnOk};
 ghost use Rattle.std.specs.Option.{option_copied, option_map};
 ghost use Rattle.dm_plain.specs.Namespace.{bytes_of, no_files, written};
-ghost use Rattle.dm_plain.specs.Steps.{after, bytes_dumped, range_replaced, restored, with_dump, without_dump, without_file, EndsInLimit, TakesMemory};
+ghost use Rattle.dm_plain.specs.Steps.{after, bytes_dumped, range_replaced, restored, with_age, with_dump, without_dump, without_file, EndsInLimit, TakesMemory};
 
-use crate::dump::Dump;
+use crate::dump::{Dump, NewAge};
 use crate::patch::patch;
 use crate::step::PlainStep;
 use dm_base::{Bytes, DumpName, NoMemory, Path, Secs};
+use dm_rows::TextRows;
 use std::alloc::Global;
 use std::collections::BTreeMap;
 use std::marker::Model;
 
-/// Files by their paths, each with its bytes; dumps by their names; and a time.
+/// Files by their paths, each with its bytes; dumps by their names, each with the time that it was made and the least
+/// age in force since then; a time; and an age. (docs/DEFINITIONS.md, "The plain namespace".)
 #[derive(Drop)]
 pub struct Plain {
     files: BTreeMap<Path, Bytes>,
-    dumps: BTreeMap<DumpName, Dump>,
+    dumps: TextRows<DumpName, Dump>,
     now: Secs,
+    age: u64,
 }
 
 impl Model for Plain {
@@ -29,23 +32,24 @@ impl Model for Plain {
 
     ghost coded = { namespace_code };
 
-    ghost view = { λ p. record { files = map.from_entries p.files.entries; dumps = map.from_entries p.dumps.entries; now = p.now.0 } };
+    ghost view = { λ p. record { files = map.from_entries p.files.entries; dumps = p.dumps.rows; now = p.now.0; age = p.age } };
 }
 
 impl Plain {
-    /// No file, no dump, and the time 0. It takes no memory.
-    pub fn empty(alloc: Global) -> Plain
-        ensures { result ≡ no_files }
+    /// No file, no dump, the time 0, and this age. It takes no memory.
+    pub fn empty(alloc: Global, age: u64) -> Plain
+        ensures { result ≡ no_files age }
     {
         Plain {
             files: BTreeMap::new(alloc),
-            dumps: BTreeMap::new(alloc),
+            dumps: TextRows::empty(alloc),
             now: Secs(0),
+            age,
         }
     }
 
     /// Does a step. It copies the bytes and the names that it keeps, and for a dump all files, so memory
-    /// may be refused; `Remove`, `Undump` and `Time` take none.
+    /// may be refused; `Remove`, `Undump`, `Age` and `Time` take none.
     pub fn apply(&mut self, alloc: Global, step: &PlainStep) -> Result<(), NoMemory>
         // The range of a patch ends at most 16,777,216 bytes from the beginning of its file.
         requires { EndsInLimit step.now }
@@ -72,6 +76,10 @@ impl Plain {
                 Ok(())
             }
             PlainStep::Restore { name, path, target } => self.restore(alloc, name, path, target),
+            PlainStep::Age { age } => {
+                self.set_age(*age);
+                Ok(())
+            }
             PlainStep::Time { now } => {
                 self.now = *now;
                 Ok(())
@@ -124,15 +132,24 @@ impl Plain {
         ensures ok { OnOk result (self.new ≡ with_dump name self.old) }
         ensures err { OnErr result (self.new ≡ self.old) }
     {
-        let dump = Dump::of_files(alloc, self.now, &self.files)?;
-        self.dumps.insert(name, dump)?;
+        let dump = Dump::of_files(alloc, self.now, self.age, &self.files)?;
+        let row = Box::new(alloc, (name, dump))?;
+        self.dumps.reserve(1)?;
+        self.dumps.insert_reserved(row);
         Ok(())
     }
 
     fn undump(&mut self, name: &DumpName)
         ensures { self.new ≡ without_dump name.now self.old }
     {
-        self.dumps.remove(name);
+        self.dumps.remove(name.bytes());
+    }
+
+    fn set_age(&mut self, age: u64)
+        ensures { self.new ≡ with_age age self.old }
+    {
+        self.age = age;
+        self.dumps.change_all(&NewAge(age));
     }
 
     fn restore(
@@ -158,7 +175,7 @@ impl Plain {
     fn dumped(&self, name: &DumpName, path: &Path) -> Option<&Bytes>
         ensures { option_copied result ≡ bytes_dumped name.now path.now self.entry.now }
     {
-        match self.dumps.get(name) {
+        match self.dumps.get(name.bytes()) {
             Some(dump) => dump.bytes_of(path),
             None => None,
         }

@@ -2,7 +2,7 @@
 
 use dm_base::{Bytes, DumpName, Path, Secs};
 
-/// A change of the files, of the dumps or of the time. One whose file or dump isn't there changes
+/// A change of the files, of the dumps, of the age or of the time. One whose file or dump isn't there changes
 /// nothing.
 #[derive(Drop)]
 pub enum PlainStep {
@@ -22,7 +22,7 @@ pub enum PlainStep {
     Remove {
         path: Path,
     },
-    /// Keeps a copy of all files, made now, in place of a dump that has the name.
+    /// Keeps a copy of all files, made now under the age in force, in place of a dump that has the name.
     Dump {
         name: DumpName,
     },
@@ -35,6 +35,10 @@ pub enum PlainStep {
         name: DumpName,
         path: Path,
         target: Path,
+    },
+    /// Sets the age in force, in seconds, and lowers to it the least age of each dump where that is greater.
+    Age {
+        age: u64,
     },
     /// Sets the time.
     Time {

@@ -100,7 +100,7 @@ fn lacks(alloc: Global, files: &Plain, text: &[u8]) -> bool {
 #[test]
 fn writes_patches_and_removes(rt: HostRuntime) -> Result<(), Fail> {
     let alloc = rt.alloc();
-    let mut files = Plain::empty(alloc);
+    let mut files = Plain::empty(alloc, 10);
     write(alloc, &mut files, b"/b", b"one")?;
     write(alloc, &mut files, b"/a/b", b"two")?;
     write(alloc, &mut files, b"/b", b"three")?;
@@ -128,9 +128,26 @@ fn writes_patches_and_removes(rt: HostRuntime) -> Result<(), Fail> {
 }
 
 #[test]
+fn an_age_leaves_files_and_dumps(rt: HostRuntime) -> Result<(), Fail> {
+    let alloc = rt.alloc();
+    let mut files = Plain::empty(alloc, 10);
+    write(alloc, &mut files, b"/a", b"old")?;
+    dump(alloc, &mut files, b"d")?;
+    files.apply(alloc, &PlainStep::Age { age: 3 })?;
+    dump(alloc, &mut files, b"e")?;
+    files.apply(alloc, &PlainStep::Age { age: 200 })?;
+    remove(alloc, &mut files, b"/a")?;
+    restore(alloc, &mut files, b"d", b"/a", b"/b")?;
+    restore(alloc, &mut files, b"e", b"/a", b"/c")?;
+    assert!(rt; holds(alloc, &files, b"/b", b"old"));
+    assert!(rt; holds(alloc, &files, b"/c", b"old"));
+    Ok(())
+}
+
+#[test]
 fn dumps_and_restores(rt: HostRuntime) -> Result<(), Fail> {
     let alloc = rt.alloc();
-    let mut files = Plain::empty(alloc);
+    let mut files = Plain::empty(alloc, 10);
     write(alloc, &mut files, b"/a", b"old")?;
     write(alloc, &mut files, b"/c", b"kept")?;
     files.apply(alloc, &PlainStep::Time { now: Secs(7) })?;

@@ -10,7 +10,8 @@ use Rattle.dm_parts.specs.declared.state.Origin.{Origin}
 use Rattle.dm_parts.specs.declared.state.Origin.TheVariants as origin
 use Rattle.dm_parts.specs.declared.state.Side.{Side}
 use Rattle.dm_rules.specs.Label.{label, first_zone}
-use Rattle.dm_rules.specs.Zone.{chunk_header, zone_length}
+use Rattle.dm_rules.specs.Zone.{zone_length}
+use Rattle.dm_rules.specs.Version.{first_version}
 use Rattle.dm_rules.specs.Known.{agrees}
 use Rattle.dm_parts.specs.Volumes.{same_text}
 use Rattle.dm_plans.specs.GroupCalls.{grouped, no_group, no_token, is_new}
@@ -23,7 +24,7 @@ use Rattle.dm_base.specs.declared.serial.Vsn.{Vsn}
 -- whether a mount is of a piece whose zone stands there
 abbrev pub is_place_of : Origin → ℕ → ℕ → Bool
 is_place_of (origin.New listed) place n = false
-is_place_of (origin.Piece b index p chunk) place n = nat_eq place p.zone && nat_eq n (zone_length chunk_header chunk p.len)
+is_place_of (origin.Piece b index p chunk) place n = nat_eq place p.zone && nat_eq n (zone_length first_version chunk p.len)
 is_place_of (origin.Chunk b chunk) place n = false
 
 abbrev pub zone_mark : GroupId → Vsn → MountState → ℕ → List ℕ → Origin → Mark
@@ -65,7 +66,7 @@ is_unlisted (origin.Chunk b chunk) = false
 abbrev pub relabel : GroupId → Vsn → Image → MountState → ℕ → ℕ → Plan
 relabel g vsn image x m epoch = record (grouped g answer.Labelled) {
   token = (is_unlisted x.origin && nat_eq epoch 1, 24) ∷ [];
-  mark = mark.Label g vsn m epoch (label vsn.0 g.0 epoch image.size);
+  mark = mark.Label g vsn m epoch (label vsn.0 g.0 first_version epoch image.size);
 }
 
 abbrev pub mounted_plan : ℕ → GroupId → Vsn → Image → MountState → VolumeCall → Plan

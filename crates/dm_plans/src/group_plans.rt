@@ -22,6 +22,7 @@ use dm_parts::{
     Prepared, Recall, Reserved, Side, Worker, WrittenZone, chunk_at, free_slot, is_listed,
     least_missing, lowest,
 };
+use dm_rules::FIRST_VERSION;
 use dm_state::{GroupRecord, GroupStep};
 use dm_tables::{Numbers, Test};
 use dm_zone::encode_zone;
@@ -637,6 +638,7 @@ fn is_zone_of(
     let zone = encode_zone(
         alloc,
         written.epoch,
+        FIRST_VERSION,
         reserved.bfid,
         reserved.len,
         piece.offset,

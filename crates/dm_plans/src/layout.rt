@@ -2,12 +2,13 @@
 
 ghost use Rattle.std.specs.Prelude.{◌≡◌, ◌++◌, IfOk, OnOk};
 ghost use Rattle.std.specs.List.{AllByRecursion};
-ghost use Rattle.dm_rules.specs.Plan.{all_chunks as all_chunks_of, chunks_of, pieces_of as pieces_in, rooms as rooms_of};
-ghost use Rattle.dm_rules.specs.Zone.{chunk_header};
+ghost use Rattle.dm_rules.specs.Plan.{pieces_of as pieces_in, rooms as rooms_of};
+ghost use Rattle.dm_parts.specs.FirstVersion.{all_chunks as all_chunks_of, chunks_of};
+ghost use Rattle.dm_rules.specs.Version.{first_version};
 ghost use Rattle.dm_parts.specs.Laid.{IsLaid};
 
 use dm_base::{Chunk, Listed, NoMemory, Piece};
-use dm_rules::{CHUNK_HEADER, Space, ZONE_HEADER};
+use dm_rules::{CHUNK_FIELDS, Space, ZONE_HEADER};
 use std::alloc::Global;
 
 // How many bytes the volumes can hold together.
@@ -37,6 +38,7 @@ pub(crate) fn pieces_of(
         if taken > 0 {
             pieces.push(Piece {
                 vsn: space.vsn,
+                version: space.version,
                 zone: space.tip,
                 offset,
                 len: taken,
@@ -55,7 +57,7 @@ pub(crate) fn all_chunks(
     pieces: &[Piece],
 ) -> Result<Listed<Chunk>, NoMemory>
     requires { AllByRecursion (IsLaid chunk) pieces.now }
-    ensures { IfOk result (λ chunks. chunks ≡ all_chunks_of chunk_header chunk pieces.now) }
+    ensures { IfOk result (λ chunks. chunks ≡ all_chunks_of first_version chunk pieces.now) }
 {
     let mut chunks = Vec::new(alloc);
     for piece in pieces {
@@ -67,7 +69,7 @@ pub(crate) fn all_chunks(
 // Puts the chunks of a piece behind what is there.
 fn put_chunks(out: &mut Vec<Chunk>, chunk: u64, piece: Piece) -> Result<(), NoMemory>
     requires { IsLaid chunk piece }
-    ensures { OnOk result (out.new.items ≡ out.old.items ++ chunks_of chunk_header chunk piece) }
+    ensures { OnOk result (out.new.items ≡ out.old.items ++ chunks_of first_version chunk piece) }
 {
     let count = piece.len.div_ceil(chunk);
     let mut offset = piece.offset;
@@ -75,13 +77,14 @@ fn put_chunks(out: &mut Vec<Chunk>, chunk: u64, piece: Piece) -> Result<(), NoMe
     let mut place = piece.zone + ZONE_HEADER;
     for _ in 0..count {
         let taken = chunk.min(left);
-        let bytes = place + CHUNK_HEADER;
+        let bytes = place + CHUNK_FIELDS;
         out.push(Chunk {
             offset,
             len: taken,
             vsn: piece.vsn,
             zone: piece.zone,
             place: bytes,
+            sum: None,
         })?;
         offset += taken;
         left -= taken;

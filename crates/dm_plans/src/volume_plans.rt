@@ -4,7 +4,8 @@ ghost use Rattle.std.specs.Prelude.{◌≡◌, None, false, IfOk};
 ghost use Rattle.std.specs.FinMap as map;
 ghost use Rattle.std.specs.Option.{option_copied};
 ghost use Rattle.dm_rules.specs.Known.{agrees as agrees_of, may_be as may_be_of};
-ghost use Rattle.dm_rules.specs.Zone.{chunk_header, zone_length as zone_length_of};
+ghost use Rattle.dm_rules.specs.Zone.{zone_length as zone_length_of};
+ghost use Rattle.dm_rules.specs.Version.{first_version};
 ghost use Rattle.dm_parts.specs.Plan.{prepared};
 ghost use Rattle.dm_parts.specs.Tests.{lowest_false};
 ghost use Rattle.dm_plans.specs.VolumeCalls.{image_plan, is_place_of as is_place, is_readable as is_readable_of, is_unlisted as is_unlisted_of, mounted_plan, mount_in, read_chunk as read_chunk_plan, read_mark as read_mark_of, relabel as relabel_plan, volume_in, volume_plan, write_zone as write_zone_plan, zone_mark as zone_mark_of};
@@ -18,7 +19,7 @@ use dm_parts::{
     Answer, Component, Ending, Image, Mark, MountState, Opening, Origin, Prepared, Side,
     VolumeCall, lowest,
 };
-use dm_rules::{CHUNK_HEADER, FIRST_ZONE, ZONE_HEADER};
+use dm_rules::{CHUNK_FIELDS, FIRST_VERSION, FIRST_ZONE, ZONE_HEADER};
 use dm_tables::Numbers;
 use dm_zone::label;
 use std::alloc::Global;
@@ -64,14 +65,14 @@ fn is_place_of(origin: Origin, place: u64, n: u64) -> bool
 
 // The length of a zone of n bytes.
 fn zone_length(chunk: u64, n: u64) -> u128
-    ensures { result ≡ zone_length_of chunk_header chunk n }
+    ensures { result ≡ zone_length_of first_version chunk n }
 {
     let count = if chunk == 0 {
         u64::from(n > 0)
     } else {
         n.div_ceil(chunk)
     };
-    u128::from(ZONE_HEADER) + u128::from(CHUNK_HEADER) * u128::from(count) + u128::from(n)
+    u128::from(ZONE_HEADER) + u128::from(CHUNK_FIELDS) * u128::from(count) + u128::from(n)
 }
 
 // What a written zone leaves.
@@ -250,7 +251,7 @@ fn relabel(
     ensures { IfOk result (λ p. p ≡ prepared (relabel_plan group vsn image.now mount.now number epoch)) }
 {
     let first = is_unlisted(mount.origin) && epoch == 1;
-    let text = label(&vsn.0, group, epoch, image.size);
+    let text = label(&vsn.0, group, FIRST_VERSION, epoch, image.size);
     let text = Bytes::from_vec(Vec::from_slice(alloc, &text)?);
     let mark = Mark::Label {
         group,

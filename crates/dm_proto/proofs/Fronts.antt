@@ -1,15 +1,14 @@
 -- How an input goes on behind its blank lines, and that it does so in one way only.
-use Rattle.std.proofs.Common.{◌≡◌, ◌≢◌, ℕ, ◌<◌, ◌+◌, inl, inr, List, [], ◌∷◌, ◌++◌, length, take, drop, replicate, refl, sym, ◌∙◌, ap, subst, arith, append_assoc, length-append}
-use Rattle.std.proofs.lemmas.List.{take_at, drop_at, length-replicate}
+use Rattle.std.proofs.Common.{◌≡◌, ◌≢◌, ℕ, ◌+◌, inl, inr, List, [], ◌∷◌, ◌++◌, length, take, drop, refl, sym, ◌∙◌, ap, subst, arith, append_assoc, length-append}
+use Rattle.std.proofs.lemmas.List.{take_at, drop_at}
 use Rattle.std.specs.List.{AllByRecursion, flat_map}
 use Rattle.dm_proto.specs.Words.{words, IsLine, IsBlank, ended}
-use Rattle.dm_proto.specs.Grammar.{IsWrite}
-use Rattle.dm_proto.specs.Stream.{Means, IsText, AreBlank, IsPartialWrite, IsUnfinished, IsLong, Ending, AtEnd, Inside, TooLong}
-use Rattle.dm_base.specs.declared.command.Command.TheVariants.{Write, PutRelease, Read}
+use Rattle.dm_proto.specs.Grammar.{Says}
+use Rattle.dm_proto.specs.Stream.{Means, IsText, AreBlank, IsPartial, IsUnfinished, IsLong, Ending, AtEnd, Inside, TooLong}
 use Rattle.dm_proto.specs.declared.heard.Heard.{Heard}
 use Rattle.dm_proto.specs.declared.heard.Heard.TheVariants as heard
 use Rattle.dm_proto.proofs.Lines.{same_line, no_end_inside, no_end_front}
-use Rattle.dm_proto.proofs.Forms.{form_of}
+use Rattle.dm_proto.proofs.Forms.{form_of, says_some}
 
 -- what comes behind the blank lines
 pub data Front : Type 0 where
@@ -43,13 +42,8 @@ pub record HasLine (input : List ℕ) : Type 0 where
   pub spelled : input ≡ line ++ 10 ∷ payload
 
 means_some : (line payload : List ℕ) (heard : Heard) → Means line payload heard → words line ≢ []
-means_some line payload (heard.Command (Write path bytes)) m f = let e = m.0.spelled in cc
-means_some line payload (heard.Command (PutRelease path)) m f = let e = m.0.spelled in cc
-means_some line payload (heard.Command (Read path)) m f = let e = m.0.spelled in cc
-means_some line payload heard.Syntax m f = m.0.some f
-
-write_some : (line path : List ℕ) (size : ℕ) → IsWrite line path size → words line ≢ []
-write_some line path size w f = let e = w.spelled in cc
+means_some line payload (heard.Command c) m = says_some line payload c m
+means_some line payload heard.Syntax m = m.0.some
 
 abbrev item_line : (input : List ℕ) (heard : Heard) (rest : List ℕ) → IsItem input heard rest → HasLine input
 item_line input heard rest i = record {
@@ -60,12 +54,12 @@ item_line input heard rest i = record {
   spelled = i.spelled ∙ ap (λ x. x ++ rest) i.is_text.spelled ∙ append_assoc i.is_text.line (10 ∷ i.is_text.payload) rest;
 }
 
-abbrev partial_line : (input : List ℕ) → IsPartialWrite input → HasLine input
+abbrev partial_line : (input : List ℕ) → IsPartial input → HasLine input
 partial_line input p = record {
   line = p.line;
   payload = p.payload;
   is_line = p.is_line;
-  some = write_some p.line p.path p.size p.is_write;
+  some = says_some p.line (p.payload ++ p.missing) p.command p.says;
   spelled = p.spelled;
 }
 
@@ -127,21 +121,15 @@ same_item input h k r s i j =
     let heard : h ≡ k = left.1 ∙ ap form.hear payloads.0 ∙ sym right.1 in
     ap (λ x. item x r) heard ∙ ap (item k) payloads.1
 
-size_apart : (payload rest held length_filler size missing : ℕ) → payload + rest ≡ held → payload ≡ size → length_filler ≡ size → length_filler ≡ missing → held < missing → ⊥
-size_apart payload rest held length_filler size missing a b c d l = omega arith
-
-item_not_partial : (input : List ℕ) (h : Heard) (r : List ℕ) → IsItem input h r → IsPartialWrite input → ⊥
+item_not_partial : (input : List ℕ) (h : Heard) (r : List ℕ) → IsItem input h r → IsPartial input → ⊥
 item_not_partial input h r i p =
     let a = item_line input h r i in
     let both = same_line a.line p.line a.payload p.payload a.is_line.no_end p.is_line.no_end (sym a.spelled ∙ p.spelled) in
     let form = form_of a.line a.some in
     let left = form.only i.is_text.payload h i.is_text.means in
-    let write : IsWrite a.line p.path p.size = subst (λ (l : List ℕ). IsWrite l p.path p.size) (sym both.0) p.is_write in
-    let filler : List ℕ = replicate p.size 0 in
-    let length_of_filler : length filler ≡ p.size = length-replicate p.size 0 in
-    let size = (form.only filler (heard.Command (Write p.path filler)) (subst (IsWrite a.line p.path) (sym length_of_filler) write, refl)).0 in
+    let whole = form.only (p.payload ++ p.missing) (heard.Command p.command) (subst (λ (l : List ℕ). Says l (p.payload ++ p.missing) p.command) (sym both.0) p.says) in
     let lengths : length i.is_text.payload + length r ≡ length p.payload = sym (length-append i.is_text.payload r) ∙ ap length both.1 in
-    size_apart (length i.is_text.payload) (length r) (length p.payload) (length filler) form.size p.size lengths left.0 size length_of_filler p.missing
+    omega (arith, left.0, whole.0, lengths, p.some, length-append p.payload p.missing)
 
 partial_not_long : (input : List ℕ) → IsUnfinished input → IsLongFront input → ⊥
 partial_not_long input u l =

@@ -1,14 +1,15 @@
 -- What is heard of an input: fronts of it, put together, and that all of it is heard in one way.
-use Rattle.std.proofs.Common.{◌≡◌, ◌≢◌, ℕ, zero, suc, ◌<◌, ◌⊎◌, inl, inr, List, [], ◌∷◌, ◌++◌, length, take, drop, refl, sym, ◌∙◌, ap, subst, arith, append_assoc, length-append}
+use Rattle.std.proofs.Common.{◌≡◌, ◌≢◌, ℕ, zero, suc, ◌-◌, ◌<◌, ◌≤◌, ◌⊎◌, inl, inr, List, [], ◌∷◌, ◌++◌, length, take, drop, refl, sym, ◌∙◌, ap, subst, arith, append_assoc, length-append}
 use Rattle.std.proofs.lemmas.Bool.{cases_lt}
 use Rattle.std.proofs.lemmas.List.{append-nil, take-append-drop, length-take-le, length-drop, nil_from_length}
 use Rattle.std.proofs.lemmas.List.Concat.{flat_map-append}
 use Rattle.std.specs.List.{AllByRecursion, flat_map}
-use Rattle.dm_proto.specs.Words.{words, IsLine, IsBlank, HasNoEnd, line_limit, ended}
+use Rattle.dm_base.specs.Limits.{line_limit}
+use Rattle.dm_proto.specs.Words.{words, IsLine, IsBlank, HasNoEnd, ended}
 use Rattle.dm_proto.specs.Stream.{AreBlank, Begins, Ending, AtEnd, Inside, TooLong, Ends, Hears, Consumes}
 use Rattle.dm_proto.specs.declared.heard.Heard.{Heard}
 use Rattle.dm_proto.proofs.Lines.{first_line, no_end-take}
-use Rattle.dm_proto.proofs.Forms.{form_of}
+use Rattle.dm_proto.proofs.Forms.{Form, form_of, partial_from}
 use Rattle.dm_proto.proofs.Fronts.{item, end, Fronts, fronts_once}
 
 all-append : (P : List ℕ → Type 0) (xs ys : List (List ℕ)) → AllByRecursion P xs → AllByRecursion P ys → AllByRecursion P (xs ++ ys)
@@ -60,37 +61,29 @@ blank_hears : (blank input : List ℕ) (items : List Heard) (e : Ending) → Are
 blank_hears blank input [] e p q = blank_ends blank input e p q
 blank_hears blank input (h ∷ hs) e p q = (q.0, blank_begins blank input h q.0 p q.1, q.2)
 
-blank_consumes : (blank input : List ℕ) (items : List Heard) (left : List ℕ) → AreBlank blank → Consumes input items left → Consumes (blank ++ input) items left
-blank_consumes blank input [] left p c = (blank ++ c.0, blank_join blank c.0 p c.1, ap (λ x. blank ++ x) c.2 ∙ sym (append_assoc blank c.0 left))
-blank_consumes blank input (h ∷ hs) left p c = (c.0, blank_begins blank input h c.0 p c.1, c.2)
-
 -- nothing of the input is consumed yet
 pub consumes_none : (input : List ℕ) → Consumes input [] input
-consumes_none input = ([], blank_none, refl)
+consumes_none input tail more e h = h
+
+-- blank lines say nothing
+pub consumes_blank : (blank : List ℕ) → AreBlank blank → Consumes blank [] []
+consumes_blank blank p tail more e h = blank_hears blank tail more e p h
 
 -- a front, and then a front of what it left
 pub consumes_on : (input : List ℕ) (hs : List Heard) (left mid : List ℕ) (more : List Heard) → Consumes input hs left → Consumes left more mid → Consumes input (hs ++ more) mid
-consumes_on input [] left mid more c d = subst (λ (x : List ℕ). Consumes x more mid) (sym c.2) (blank_consumes c.0 left more mid c.1 d)
-consumes_on input (h ∷ hs) left mid more c d = (c.0, c.1, consumes_on c.0 hs left mid more c.2 d)
-
-begins_more : (input : List ℕ) (h : Heard) (rest : List ℕ) → Begins input h rest → (tail : List ℕ) → Begins (input ++ tail) h (rest ++ tail)
-begins_more input h rest b tail = record {
-  blank = b.blank;
-  text = b.text;
-  are_blank = b.are_blank;
-  is_text = b.is_text;
-  spelled = ap (λ x. x ++ tail) b.spelled ∙ append_assoc b.blank (b.text ++ rest) tail ∙ ap (λ x. b.blank ++ x) (append_assoc b.text rest tail);
-}
+consumes_on input hs left mid more c d tail later e h =
+    subst (λ (x : List Heard). Hears (input ++ tail) x e) (sym (append_assoc hs more later)) (c tail (more ++ later) e (d tail later e h))
 
 -- what follows an input is left behind its front
 pub consumes_more : (input : List ℕ) (hs : List Heard) (left : List ℕ) → Consumes input hs left → (tail : List ℕ) → Consumes (input ++ tail) hs (left ++ tail)
-consumes_more input [] left c tail = (c.0, c.1, ap (λ x. x ++ tail) c.2 ∙ append_assoc c.0 left tail)
-consumes_more input (h ∷ hs) left c tail = (c.0 ++ tail, begins_more input h c.0 c.1 tail, consumes_more c.0 hs left c.2 tail)
+consumes_more input hs left c tail further more e h =
+    subst (λ (x : List ℕ). Hears x (hs ++ more) e) (sym (append_assoc input tail further))
+    (c (tail ++ further) more e (subst (λ (x : List ℕ). Hears x more e) (append_assoc left tail further) h))
 
 -- what was consumed is a front of what is heard
 pub hears_from : (input : List ℕ) (hs : List Heard) (left : List ℕ) (more : List Heard) (e : Ending) → Consumes input hs left → Hears left more e → Hears input (hs ++ more) e
-hears_from input [] left more e c h = subst (λ (x : List ℕ). Hears x more e) (sym c.2) (blank_hears c.0 left more e c.1 h)
-hears_from input (i ∷ hs) left more e c h = (c.0, c.1, hears_from c.0 hs left more e c.2 h)
+hears_from input hs left more e c h =
+    subst (λ (x : List ℕ). Hears x (hs ++ more) e) (append-nil input) (c [] more e (subst (λ (x : List ℕ). Hears x more e) (sym (append-nil left)) h))
 
 pub hears_end : (input : List ℕ) (hs : List Heard) (left : List ℕ) (e : Ending) → Consumes input hs left → Ends left e → Hears input hs e
 hears_end input hs left e c h = subst (λ (x : List Heard). Hears input x e) (append-nil hs) (hears_from input hs left [] e c h)
@@ -173,53 +166,53 @@ settled_words (w ∷ ws) = inr (λ e. cc)
 abbrev HeardBelow : ℕ → Type 0
 HeardBelow n = (input : List ℕ) → length input < n → IsHeard input
 
+-- a line and its payload, and then what is heard behind them
+pub hears_whole : (text rest : List ℕ) (form : Form text) (items : List Heard) (ending : Ending) → IsLine text → form.size ≤ length rest → Hears (drop form.size rest) items ending
+    → Hears (text ++ 10 ∷ rest) (form.hear (take form.size rest) ∷ items) ending
+hears_whole text rest form items ending is_line whole later =
+    let payload = take form.size rest in
+    let behind = drop form.size rest in (
+      behind,
+      record {
+        blank = [];
+        text = text ++ 10 ∷ payload;
+        are_blank = blank_none;
+        is_text = record {
+          line = text;
+          payload = payload;
+          is_line = is_line;
+          means = form.heard payload (length-take-le form.size rest whole);
+          spelled = refl;
+        };
+        spelled = ap (λ x. text ++ 10 ∷ x) (sym (take-append-drop form.size rest)) ∙ sym (append_assoc text (10 ∷ payload) behind);
+      },
+      later,
+    )
+
+-- a line and less than its payload
+pub hears_inside : (text rest : List ℕ) (form : Form text) → IsLine text → length rest < form.size → Hears (text ++ 10 ∷ rest) [] Inside
+hears_inside text rest form is_line missing = record {
+  blank = [];
+  begun = text ++ 10 ∷ rest;
+  are_blank = blank_none;
+  unfinished = record {
+    some = omega (arith, length-append text (10 ∷ rest));
+    either = inr (partial_from text rest form is_line missing);
+  };
+  spelled = refl;
+}
+
 heard_text : (n : ℕ) → HeardBelow n → (line rest : List ℕ) → IsLine line → words line ≢ [] → length rest < n → IsHeard (line ++ 10 ∷ rest)
 heard_text n below line rest is_line some small =
     let form = form_of line some in
     elim (cases_lt (length rest) form.size) [
-      | inl missing ↦ is_ended (line ++ 10 ∷ rest) Inside (record {
-        blank = [];
-        begun = line ++ 10 ∷ rest;
-        are_blank = blank_none;
-        unfinished = record {
-          some = omega (arith, length-append line (10 ∷ rest));
-          either = inr (record {
-            line = line;
-            path = (form.write (omega arith)).0;
-            size = form.size;
-            payload = rest;
-            is_line = is_line;
-            is_write = (form.write (omega arith)).1;
-            missing = missing;
-            spelled = refl;
-          });
-        };
-        spelled = refl;
-      })
+      | inl missing ↦ is_ended (line ++ 10 ∷ rest) Inside (hears_inside line rest form is_line missing)
       | inr whole ↦
-          let payload = take form.size rest in
-          let behind = drop form.size rest in
-          let later = below behind (omega (arith, length-drop form.size rest)) in
+          let later = below (drop form.size rest) (omega (arith, length-drop form.size rest)) in
           record {
-            items = form.hear payload ∷ later.items;
+            items = form.hear (take form.size rest) ∷ later.items;
             ending = later.ending;
-            hears = (
-              behind,
-              record {
-                blank = [];
-                text = line ++ 10 ∷ payload;
-                are_blank = blank_none;
-                is_text = record {
-                  line = line;
-                  payload = payload;
-                  is_line = is_line;
-                  means = form.heard payload (length-take-le form.size rest whole);
-                  spelled = refl;
-                };
-                spelled = ap (λ x. line ++ 10 ∷ x) (sym (take-append-drop form.size rest)) ∙ sym (append_assoc line (10 ∷ payload) behind);
-              },
-              later.hears,
-            );
+            hears = hears_whole line rest form later.items later.ending is_line whole later.hears;
           }
     ]
 
@@ -251,3 +244,32 @@ is_heard_below (suc n) input small =
 
 pub hears_some : (input : List ℕ) → IsHeard input
 hears_some input = is_heard_below (suc (length input)) input (omega arith)
+
+-- what is left behind the front of a list that is in two parts
+drop_behind : (a b : List ℕ) (n : ℕ) → length a ≤ n → drop n (a ++ b) ≡ drop (n - length a) b
+drop_behind [] b n l = ap (λ (k : ℕ). drop k b) (omega arith)
+drop_behind (x ∷ a) b zero l = absurd (omega (arith, l))
+drop_behind (x ∷ a) b (suc n) l = drop_behind a b n (omega (arith, l)) ∙ ap (λ (k : ℕ). drop k b) (omega arith)
+
+-- of a payload that its command doesn't hold any bytes may stand for others
+pub hears_swapped : (text x y tail : List ℕ) (form : Form text) (more : List Heard) (e : Ending) → IsLine text → ((p q : List ℕ) → form.hear p ≡ form.hear q) → length x ≡ length y → length y ≤ form.size
+    → Hears (text ++ 10 ∷ (y ++ tail)) more e → Hears (text ++ 10 ∷ (x ++ tail)) more e
+hears_swapped text x y tail form more e is_line plain same within h =
+    let lx : length (x ++ tail) ≡ length (y ++ tail) = omega (arith, length-append x tail, length-append y tail, same) in
+    elim (cases_lt (length (y ++ tail)) form.size) [
+      | inl missing ↦
+          let short : length (x ++ tail) < form.size = omega (arith, lx, missing) in
+          let once = hears_once (text ++ 10 ∷ (y ++ tail)) [] more Inside e (hears_inside text (y ++ tail) form is_line missing) h in
+          subst (λ (z : Ending). Hears (text ++ 10 ∷ (x ++ tail)) more z) once.1
+          (subst (λ (z : List Heard). Hears (text ++ 10 ∷ (x ++ tail)) z Inside) once.0 (hears_inside text (x ++ tail) form is_line short))
+      | inr whole ↦
+          let long : form.size ≤ length (x ++ tail) = omega (arith, lx, whole) in
+          let fits : length x ≤ form.size = omega (arith, same, within) in
+          let later = hears_some (drop form.size (y ++ tail)) in
+          let there = hears_whole text (y ++ tail) form later.items later.ending is_line whole later.hears in
+          let once = hears_once (text ++ 10 ∷ (y ++ tail)) _ more later.ending e there h in
+          let behind : drop form.size (y ++ tail) ≡ drop form.size (x ++ tail) = drop_behind y tail form.size within ∙ ap (λ (n : ℕ). drop (form.size - n) tail) (sym same) ∙ sym (drop_behind x tail form.size fits) in
+          let here = hears_whole text (x ++ tail) form later.items later.ending is_line long (subst (λ (z : List ℕ). Hears z later.items later.ending) behind later.hears) in
+          let first : form.hear (take form.size (x ++ tail)) ∷ later.items ≡ more = ap (λ (z : Heard). z ∷ later.items) (plain (take form.size (x ++ tail)) (take form.size (y ++ tail))) ∙ once.0 in
+          subst (λ (z : Ending). Hears (text ++ 10 ∷ (x ++ tail)) more z) once.1 (subst (λ (z : List Heard). Hears (text ++ 10 ∷ (x ++ tail)) z later.ending) first here)
+    ]

@@ -1,7 +1,11 @@
+pub mod Digits
+pub mod Slots
+pub mod Meaning
 pub mod Lines
 pub mod Forms
 pub mod Fronts
 pub mod Hearing
+pub mod Sessions
 pub mod Parts
 pub mod Numbers
 pub mod Steps

@@ -1,8 +1,10 @@
 -- What an input says: its commands in order, and how it ends.
 use Rattle.std.specs.Prelude.{◌≡◌, ℕ, suc, ◌<◌, ◌⊎◌, List, [], ◌∷◌, ◌++◌, length}
 use Rattle.std.specs.List.{AllByRecursion, flat_map}
-use Rattle.dm_proto.specs.Words.{IsLine, IsBlank, HasNoEnd, line_limit, ended}
-use Rattle.dm_proto.specs.Grammar.{Says, IsSyntax, IsWrite}
+use Rattle.dm_base.specs.Limits.{line_limit}
+use Rattle.dm_base.specs.declared.command.Command.{Command}
+use Rattle.dm_proto.specs.Words.{IsLine, IsBlank, HasNoEnd, ended}
+use Rattle.dm_proto.specs.Grammar.{Says, IsSyntax}
 use Rattle.dm_proto.specs.declared.heard.Heard.{Heard}
 use Rattle.dm_proto.specs.declared.heard.Heard.TheVariants as heard
 
@@ -33,21 +35,21 @@ pub record Begins (input : List ℕ) (heard : Heard) (rest : List ℕ) : Type 0 
   pub is_text : IsText text heard
   pub spelled : input ≡ blank ++ (text ++ rest)
 
--- the line of a `write`, and a payload of which something is missing
-pub record IsPartialWrite (bytes : List ℕ) : Type 0 where
+-- a line and a part of a payload: with further bytes, one or more, they say a command
+pub record IsPartial (bytes : List ℕ) : Type 0 where
   pub line : List ℕ
-  pub path : List ℕ
-  pub size : ℕ
   pub payload : List ℕ
+  pub missing : List ℕ
+  pub command : Command
   pub is_line : IsLine line
-  pub is_write : IsWrite line path size
-  pub missing : length payload < size
+  pub says : Says line (payload ++ missing) command
+  pub some : 0 < length missing
   pub spelled : bytes ≡ line ++ 10 ∷ payload
 
 -- a command that is begun and not ended
 pub record IsUnfinished (bytes : List ℕ) : Type 0 where
   pub some : 0 < length bytes
-  pub either : IsLine bytes ⊎ IsPartialWrite bytes
+  pub either : IsLine bytes ⊎ IsPartial bytes
 
 -- more bytes without a line feed than a line has
 pub record IsLong (bytes : List ℕ) : Type 0 where
@@ -92,7 +94,7 @@ abbrev pub Hears : List ℕ → List Heard → Ending → Type 0
 Hears input [] ending = Ends input ending
 Hears input (h ∷ hs) ending = (rest : List ℕ) × Begins input h rest × Hears rest hs ending
 
--- a front of the input: these are heard, in this order, and what follows is left
+-- a front of the input: whatever follows, these are heard, and then what is heard of what is left
 abbrev pub Consumes : List ℕ → List Heard → List ℕ → Type 0
-Consumes input [] left = (blank : List ℕ) × AreBlank blank × (input ≡ blank ++ left)
-Consumes input (h ∷ hs) left = (rest : List ℕ) × Begins input h rest × Consumes rest hs left
+Consumes input items left =
+    (tail : List ℕ) (more : List Heard) (ending : Ending) → Hears (left ++ tail) more ending → Hears (input ++ tail) (items ++ more) ending

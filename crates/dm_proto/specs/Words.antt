@@ -2,10 +2,7 @@
 use Rattle.std.specs.Prelude.{◌≡◌, ◌≢◌, ◌==◌, ℕ, ◌≤◌, nat_lt, List, [], ◌∷◌, ◌++◌, length, filter}
 use Rattle.std.specs.List.{AllByRecursion, slice_split}
 use Rattle.std.specs.Str.Lines.{strip_carriage_return}
-
--- the most bytes that a line has before its line feed
-abbrev pub line_limit : ℕ
-line_limit = 1024
+use Rattle.dm_base.specs.Limits.{line_limit}
 
 -- no byte is a line feed (10)
 abbrev pub HasNoEnd : List ℕ → Type 0

@@ -1,4 +1,7 @@
 //! What a reader hears.
+//!
+//! The payload of a command is part of its item, so an item is whole once it is heard. A line outside
+//! the grammar is an item too, since it is answered; it takes no payload with it.
 
 ghost use Rattle.std.specs.Prelude.{◌≡◌};
 ghost use Rattle.dm_proto.specs.declared.heard.InputError.TheVariants.{NoMemory};

@@ -1,33 +1,30 @@
-//! Sessions whose meaning is known from the grammar.
+//! Sessions and lines whose meaning is known from the grammar, in pieces of several lengths.
 
 use super::*;
-use dm_base::Command;
+use dm_base::{Bfid, Command, GroupId, Prefix};
 use std::alloc::{AllocError, Global};
 use std::test::*;
 
-const SESSION: &str = "write /a 5\nhelloput -r /a\nread /a\n";
+// A file that is stored, dumped, removed and restored.
+const SESSION: &str =
+    "write /a 5\nhelloput -r /a\ndump d\nrm /a\nhdelete\nrestore d /a /b\nread /b\n";
 
-const HEARD: &str = "write /ahello\nput /a\nread /a\n";
+const HEARD: &str = "ccccccc";
 
-fn write(log: &mut Vec<u8>, name: &str, path: &[u8], bytes: &[u8]) -> Result<(), AllocError> {
-    log.extend_from_slice(name.as_bytes())?;
-    log.extend_from_slice(path)?;
-    log.extend_from_slice(bytes)?;
-    log.extend_from_slice(b"\n")
+// One letter for what is heard: a command, or a line that is none.
+fn note(log: &mut Vec<u8>, heard: &Heard) -> Result<(), AllocError> {
+    match heard {
+        Heard::Syntax => log.extend_from_slice(b"s"),
+        Heard::Command(_) => log.extend_from_slice(b"c"),
+    }
 }
 
-// One line for what is heard.
-fn note(log: &mut Vec<u8>, heard: Option<Heard>) -> Result<(), AllocError> {
-    match heard {
-        None => Ok(()),
-        Some(Heard::Syntax) => write(log, "syntax", &[], &[]),
-        Some(Heard::Command(Command::Write { path, bytes })) => {
-            write(log, "write ", path.bytes(), bytes.as_slice())
-        }
-        Some(Heard::Command(Command::PutRelease { path })) => {
-            write(log, "put ", path.bytes(), &[])
-        }
-        Some(Heard::Command(Command::Read { path })) => write(log, "read ", path.bytes(), &[]),
+// Notes what is ready, if something is, and says whether memory was there for the note. What is heard is owned here
+// alone: a test that owned it would have its drop spelled out at every way out.
+fn note_ready(reader: &mut Reader, log: &mut Vec<u8>) -> bool {
+    match reader.take() {
+        Some(heard) => note(log, &heard).is_ok(),
+        None => true,
     }
 }
 
@@ -35,12 +32,21 @@ fn note(log: &mut Vec<u8>, heard: Option<Heard>) -> Result<(), AllocError> {
 fn feed(alloc: Global, reader: &mut Reader, log: &mut Vec<u8>, piece: &[u8]) -> Result<(), Fail> {
     let mut rest = piece;
     for _ in 0..piece.len() {
-        note(log, reader.take())?;
-        let taken = reader.feed(alloc, rest)?;
-        rest = rest.split_at(taken).1;
+        let taken = feed_idle(alloc, reader, rest)?;
+        rest = rest.split_at(taken.min(rest.len())).1;
+        if !note_ready(reader, log) {
+            return Err(Fail::from(AllocError));
+        }
     }
-    note(log, reader.take())?;
     Ok(())
+}
+
+// Feeds a reader in which nothing is ready, and says how many bytes it took.
+fn feed_idle(alloc: Global, reader: &mut Reader, piece: &[u8]) -> Result<usize, Fail> {
+    if reader.take().is_some() {
+        return Ok(0);
+    }
+    Ok(reader.feed(alloc, piece)?)
 }
 
 // What is heard of an input that comes in pieces of this length, and whether it ends inside.
@@ -65,39 +71,161 @@ fn pieces(rt: HostRuntime) -> Result<(), Fail> {
     Ok(())
 }
 
+// Each command, with numbers, groups and texts at their limits, blank lines, spaces and a carriage return.
+const ACCEPTED: &str =
+    "write /e 0\nwrite /a 2\n\n\npatch /a 3 2\nXYpatch /a 9999999999999999999 0\n\
+    read /a/b.c_D-9\nput /a\nput -r /a\nput /-r\nget /a\nrelease /a\nrm /a\n\
+    ls\nattr /a\ndump d\nundump 0123456789012345678901234567890_\nrestore d /a /b\n\
+    hdelete\nage 50\nage 4294967296\nmerge 1\nreuse 2\nvols 3\nvols 4\nspace\n\
+    move / 2\nmove /a 1 2\nsnap 1 s\nunsnap 4 s\n\
+    salvage 1 s 0000000000000001000000000000000a\naudit\naudit deep\n\
+    quit\nshutdown\nls\n\r\n\n   \n \r\n\x20 read   /a  \r\n\
+    write /a 0000000000000000003\na\nbread /a\n";
+
+// Lines with a word that are no command.
+const REFUSED: &str = "frob\nwrite a 1\nwrite /a\nwrite /a 5 5\nwrite /a +5\nwrite /a 0x5\n\
+    write /a 00000000000000000003\npatch /a 1\npatch /a 10000000000000000000 1\n\
+    patch /a 1 -1\nPUT -r /a\nput -R /a\nput -r\nread /a /b\nread\t/a\nread /a\t\n\
+    read /\nread //a\nread /a/\nread /a\r\r\nls /a\nattr\ndump\ndump a/b\n\
+    dump 012345678901234567890123456789012\nrestore d /a\nrestore d /a /b /c\n\
+    restore /a d /b\nage\nage one\nmerge\nmerge 0\nmerge 5\nmerge 01\nmerge 1 2\n\
+    reuse /a\nvols 10\nspace 1\nmove /a\nmove /a 2 2\nmove /a 1 2 3\nmove // 1\n\
+    snap s 1\nsnap 1\nunsnap 1 s s\nsalvage 1 s 1\n\
+    salvage 1 s 0000000000000001000000000000000A\n\
+    salvage 1 s 00000000000000010000000000000001 1\naudit shallow\naudit deep deep\n\
+    quit now\nshutdown -h\n";
+
 #[test]
-fn lines(rt: HostRuntime) -> Result<(), Fail> {
-    for (input, want) in [
-        ("frob\n", "syntax\n"),
-        ("write a 1\n", "syntax\n"),
-        ("write /a 281\n", "syntax\n"),
-        ("write /a 00000000000000000003\n", "syntax\n"),
-        (
-            "put /a\nPUT -r /a\nread /a /b\nread\t/a\n",
-            "syntax\nsyntax\nsyntax\nsyntax\n",
-        ),
-        ("\r\n\n   \n", ""),
-        ("  read   /a  \r\n", "read /a\n"),
-        ("read /a\r\r\n", "syntax\n"),
-        ("write /e 0\n", "write /e\n"),
-        (
-            "write /a 0000000000000000003\na\nbread /a\n",
-            "write /aa\nb\nread /a\n",
-        ),
-    ] {
-        let (log, inside) = heard(rt.alloc(), input, 5)?;
-        assert_eq!(rt; log.as_slice(), want.as_bytes(), "at {input}");
-        assert!(rt; !inside);
+fn each_command_is_heard(rt: HostRuntime) -> Result<(), Fail> {
+    let (log, inside) = heard(rt.alloc(), ACCEPTED, 5)?;
+    assert_eq!(rt;
+        log.as_slice(),
+        b"ccccccccccccccccccccccccccccccccccccc".as_slice()
+    );
+    assert!(rt; !inside);
+    Ok(())
+}
+
+// No payload goes with a syntax line, so each line stands for itself.
+#[test]
+fn other_lines_are_syntax_lines(rt: HostRuntime) -> Result<(), Fail> {
+    let (log, inside) = heard(rt.alloc(), REFUSED, 1000)?;
+    let mut want = Vec::new(rt.alloc());
+    for _ in 0..52 {
+        want.extend_from_slice(b"s")?;
     }
+    assert_eq!(rt; log.as_slice(), want.as_slice());
+    assert!(rt; !inside);
+    Ok(())
+}
+
+// The bitfile 1 of site 1, by the tables `s` of group 2.
+fn is_the_salvage(heard: &Option<Heard>) -> bool {
+    match heard {
+        Some(Heard::Command(Command::Salvage { group, name, bfid })) => {
+            *group == GroupId(2) && name.bytes() == b"s".as_slice() && *bfid == Bfid::of(1, 1)
+        }
+        _ => false,
+    }
+}
+
+// All files, to group 1 alone.
+fn is_the_move(heard: &Option<Heard>) -> bool {
+    match heard {
+        Some(
+            Heard::Command(
+                Command::Move {
+                    prefix,
+                    group,
+                    second,
+                },
+            ),
+        ) => matches!(prefix, Prefix::Root) && *group == GroupId(1) && second.is_none(),
+        _ => false,
+    }
+}
+
+#[test]
+fn what_words_say_is_in_the_command(rt: HostRuntime) -> Result<(), Fail> {
+    let mut reader = Reader::new(rt.alloc());
+    let line = b"salvage 2 s 00000000000000010000000000000001\n";
+    assert_eq!(rt; feed_idle(rt.alloc(), &mut reader, line)?, 45);
+    assert!(rt; is_the_salvage(&reader.take()));
+    assert_eq!(rt; feed_idle(rt.alloc(), &mut reader, b"move / 1\n")?, 9);
+    assert!(rt; is_the_move(&reader.take()));
     Ok(())
 }
 
 #[test]
 fn unfinished(rt: HostRuntime) -> Result<(), Fail> {
-    for input in ["write /a 5\nhel", "write /a 5\n", "\n ", "\r"] {
+    for input in [
+        "write /a 5\nhel",
+        "write /a 5\n",
+        "patch /a 1 2\nX",
+        "write /a 16777217\nhel",
+        "\n ",
+        "\r",
+        "quit",
+    ] {
         let (log, inside) = heard(rt.alloc(), input, 4)?;
         assert!(rt; log.is_empty() && inside, "at {input}");
     }
+    Ok(())
+}
+
+// How long a payload was kept, or none where the command has no bytes.
+fn kept_length(heard: &Option<Heard>) -> Option<usize> {
+    match heard {
+        Some(Heard::Command(Command::Write { bytes, .. })) => Some(bytes.len()),
+        _ => None,
+    }
+}
+
+// Feeds 256 pieces of 65,536 bytes, 16,777,216 in all.
+fn feed_a_file(alloc: Global, reader: &mut Reader) -> Result<(), Fail> {
+    let piece = vec![in alloc; b'x'; 65_536]?;
+    for _ in 0..256 {
+        feed_idle(alloc, reader, &piece)?;
+    }
+    Ok(())
+}
+
+#[test]
+fn a_payload_of_the_limit_is_kept(rt: HostRuntime) -> Result<(), Fail> {
+    let mut reader = Reader::new(rt.alloc());
+    assert_eq!(rt;
+        feed_idle(rt.alloc(), &mut reader, b"write /a 16777216\n")?,
+        18
+    );
+    feed_a_file(rt.alloc(), &mut reader)?;
+    assert_eq!(rt; kept_length(&reader.take()), Some(16_777_216));
+    Ok(())
+}
+
+#[test]
+fn a_payload_over_the_limit_is_read_off(rt: HostRuntime) -> Result<(), Fail> {
+    let mut reader = Reader::new(rt.alloc());
+    let mut log = Vec::new(rt.alloc());
+    assert_eq!(rt;
+        feed_idle(rt.alloc(), &mut reader, b"write /a 16777217\n")?,
+        18
+    );
+    feed_a_file(rt.alloc(), &mut reader)?;
+    assert!(rt; reader.inside());
+    feed(rt.alloc(), &mut reader, &mut log, b"xfrob\nwrite a 1\nls\n")?;
+    assert_eq!(rt; log.as_slice(), b"cssc".as_slice());
+    Ok(())
+}
+
+#[test]
+fn a_great_number_asks_for_no_memory(rt: HostRuntime) -> Result<(), Fail> {
+    let mut reader = Reader::new(rt.alloc());
+    assert_eq!(rt;
+        reader.feed(rt.alloc(), b"write /a 9999999999999999999\n")?,
+        29
+    );
+    assert_eq!(rt; reader.feed(rt.alloc(), b"hello")?, 5);
+    assert!(rt; reader.take().is_none() && reader.inside());
     Ok(())
 }
 

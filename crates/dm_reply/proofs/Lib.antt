@@ -1,1 +1,3 @@
+pub mod CivilDays
 pub mod Taking
+pub mod Sending

@@ -1,1 +1,3 @@
 pub mod Knowledge
+pub mod Sizes
+pub mod Sums

@@ -1,6 +1,10 @@
 pub mod Numbers
+pub mod Version
 pub mod Label
 pub mod Zone
 pub mod Room
+pub mod State
+pub mod Merge
 pub mod Known
 pub mod Plan
+pub mod Patching

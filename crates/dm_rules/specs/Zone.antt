@@ -1,34 +1,41 @@
 -- A zone: a header, and the chunks of a piece of a bitfile.
-use Rattle.std.specs.Prelude.{ℕ, zero, suc, ◌+◌, ◌*◌, List, [], ◌∷◌, ◌++◌, length, take, drop, codes, replicate}
+use Rattle.std.specs.Prelude.{ℕ, zero, suc, ◌+◌, ◌*◌, Option, Some, None, List, [], ◌∷◌, ◌++◌, length, take, drop, codes, replicate, if◌then◌else◌}
 use Rattle.std.specs.Int.{w32, w64, w128, to_be_bytes, div_ceil}
 use Rattle.std.specs.List.{flat_map}
+use Rattle.sha2.specs.Sha256.{sha256}
+use Rattle.dm_rules.specs.Version.{has_sum, chunk_header}
 
--- some bytes of a bitfile: whose they are, its length, their place in it, and what a format of volumes
--- puts between the fields of the header and the bytes, which is nothing in the first format
+-- some bytes of a bitfile: whose they are, its length, their place in it, and the sum that their header ends with, if
+-- it has one
 pub record Chunk : Type 0 where
   pub bfid : ℕ
   pub total : ℕ
   pub offset : ℕ
-  pub seal : List ℕ
+  pub sum : Option (List ℕ)
   pub bytes : List ℕ
 
 -- the length of a zone's header
 abbrev pub zone_header : ℕ
 zone_header = 32
 
--- the length of a chunk's header in the first format, which has no seal
-abbrev pub chunk_header : ℕ
-chunk_header = 48
-
--- the fields of a chunk's header
+-- the fields of a chunk's header that both versions have
 unfoldable pub chunk_front : ℕ → ℕ → ℕ → ℕ → List ℕ
 chunk_front bfid offset count total =
     codes "CHNK" ++ replicate 4 0 ++ to_be_bytes w128 bfid ++ to_be_bytes w64 offset ++ to_be_bytes w64 count
     ++ to_be_bytes w64 total
 
+-- the sum that the header of a chunk of these bytes has on a volume of this version
+abbrev pub chunk_sum : ℕ → List ℕ → Option (List ℕ)
+chunk_sum version bytes = if has_sum version then Some (sha256 bytes) else None
+
+-- what stands in the header for it
+abbrev pub sum_text : Option (List ℕ) → List ℕ
+sum_text None = []
+sum_text (Some sum) = sum
+
 -- a chunk, which is its header and its bytes
 abbrev pub chunk_text : Chunk → List ℕ
-chunk_text c = chunk_front c.bfid c.offset (length c.bytes) c.total ++ c.seal ++ c.bytes
+chunk_text c = chunk_front c.bfid c.offset (length c.bytes) c.total ++ sum_text c.sum ++ c.bytes
 
 -- the header of a zone of so many chunks, with the length of the whole zone
 unfoldable pub zone_front : ℕ → ℕ → ℕ → List ℕ
@@ -44,27 +51,26 @@ zone epoch chunks =
 abbrev pub chunk_count : ℕ → ℕ → ℕ
 chunk_count chunk n = div_ceil n chunk
 
--- the bytes, which stand at `offset`, cut into `count` chunks of `chunk` bytes, the last of them what is left;
--- `seal` is what the format puts before the bytes of a chunk
-unfoldable pub cut_into : (List ℕ → List ℕ) → ℕ → ℕ → ℕ → ℕ → List ℕ → ℕ → List Chunk
-cut_into seal zero bfid total offset bytes chunk = []
-cut_into seal (suc count) bfid total offset bytes chunk =
+-- the bytes, which stand at `offset`, cut into `count` chunks of `chunk` bytes, the last of them what is left
+unfoldable pub cut_into : ℕ → ℕ → ℕ → ℕ → ℕ → List ℕ → ℕ → List Chunk
+cut_into version zero bfid total offset bytes chunk = []
+cut_into version (suc count) bfid total offset bytes chunk =
     let front = take chunk bytes in
-    record { bfid = bfid; total = total; offset = offset; seal = seal front; bytes = front }
-    ∷ cut_into seal count bfid total (offset + length front) (drop chunk bytes) chunk
+    record { bfid = bfid; total = total; offset = offset; sum = chunk_sum version front; bytes = front }
+    ∷ cut_into version count bfid total (offset + length front) (drop chunk bytes) chunk
 
--- the bytes cut into chunks
-abbrev pub cut : (List ℕ → List ℕ) → ℕ → ℕ → ℕ → List ℕ → ℕ → List Chunk
-cut seal bfid total offset bytes chunk = cut_into seal (chunk_count chunk (length bytes)) bfid total offset bytes chunk
+-- the bytes cut into chunks for a volume of this version
+abbrev pub cut : ℕ → ℕ → ℕ → ℕ → List ℕ → ℕ → List Chunk
+cut version bfid total offset bytes chunk = cut_into version (chunk_count chunk (length bytes)) bfid total offset bytes chunk
 
--- the first format puts nothing there
-abbrev pub unsealed : List ℕ → List ℕ
-unsealed bytes = []
+-- the zone of the bytes that stand at `offset` of a bitfile, for a volume of this version and epoch
+abbrev pub zone_of : ℕ → ℕ → ℕ → ℕ → ℕ → List ℕ → ℕ → List ℕ
+zone_of version epoch bfid total offset bytes chunk = zone epoch (cut version bfid total offset bytes chunk)
 
--- the length of a zone of n bytes, where the header of a chunk has `header` bytes
+-- the length of a zone of n bytes
 abbrev pub zone_length : ℕ → ℕ → ℕ → ℕ
-zone_length header chunk n = zone_header + header * chunk_count chunk n + n
+zone_length version chunk n = zone_header + chunk_header version * chunk_count chunk n + n
 
 -- what a chunk of n bytes weighs: the length of a zone of it alone
 abbrev pub weight : ℕ → ℕ → ℕ
-weight header n = zone_header + header + n
+weight version n = zone_header + chunk_header version + n

@@ -130,13 +130,6 @@ pub zone_some : (zone bytes : List ℕ) → IsZone zone bytes → 0 < length zon
 zone_some zone [] z some = absurd (omega (arith, ap length (z.none refl), some))
 zone_some zone (b ∷ bytes) z some = omega arith
 
-pub counts_one : (old new : ℕ) → old ≤ new → Rose old new → Counts 1 old new
-counts_one old new kept (inl less) = record { kept = kept; bounded = inl (omega (arith, less)) }
-counts_one old new kept (inr last) = record { kept = kept; bounded = inr (omega (arith, last)) }
-
-pub counts_none : (old new : ℕ) → old ≤ new → Counts 0 old new
-counts_none old new kept = record { kept = kept; bounded = inl (omega (arith, kept)) }
-
 pub bfid_is : (bfid : Bfid) (counter : ℕ) → bfid.0 ≡ 1 * 2 ^ 64 + counter → bfid ≡ bfid_of counter
 bfid_is bfid counter e = ap (λ (n : ℕ). let b : Bfid = record { 0 = n } in b) e
 
@@ -153,13 +146,38 @@ write_agrees plain old new image path bytes (reply.Changed change) w a =
     (λ other ne. bytes_of-written-other path other bytes plain ne) (bytes_of-written-same path bytes plain) a)
 write_agrees plain old new image path bytes (reply.Limit limit) w a = subst (λ (s : State). Agrees plain s image) (sym w.1.same) a
 write_agrees plain old new image path bytes reply.NoMemory w a = subst (λ (s : State). Agrees plain s image) (sym w.same) a
+write_agrees plain old new image path bytes reply.Done w a = absurd w
 write_agrees plain old new image path bytes (reply.Stored bfid) w a = absurd w
 write_agrees plain old new image path bytes (reply.Content found) w a = absurd w
+write_agrees plain old new image path bytes (reply.Files rows) w a = absurd w
+write_agrees plain old new image path bytes (reply.File row) w a = absurd w
+write_agrees plain old new image path bytes (reply.Dumped files) w a = absurd w
+write_agrees plain old new image path bytes (reply.Deleted entries) w a = absurd w
+write_agrees plain old new image path bytes (reply.Merged moved freed) w a = absurd w
+write_agrees plain old new image path bytes reply.Queued w a = absurd w
+write_agrees plain old new image path bytes (reply.Reused volumes) w a = absurd w
+write_agrees plain old new image path bytes (reply.Volumes rows) w a = absurd w
+write_agrees plain old new image path bytes (reply.Findings rows) w a = absurd w
+write_agrees plain old new image path bytes (reply.Spaced released stored skipped) w a = absurd w
+write_agrees plain old new image path bytes (reply.Moved files moved) w a = absurd w
+write_agrees plain old new image path bytes (reply.Saved bitfiles) w a = absurd w
 write_agrees plain old new image path bytes reply.NoFile w a = absurd w
 write_agrees plain old new image path bytes (reply.WrongState found) w a = absurd w
+write_agrees plain old new image path bytes (reply.ChangedMeanwhile was found) w a = absurd w
+write_agrees plain old new image path bytes (reply.Full have need cap) w a = absurd w
+write_agrees plain old new image path bytes reply.NoDump w a = absurd w
+write_agrees plain old new image path bytes (reply.Expired now made age) w a = absurd w
+write_agrees plain old new image path bytes reply.Exists w a = absurd w
+write_agrees plain old new image path bytes reply.DaemonFault w a = absurd w
 write_agrees plain old new image path bytes (reply.NoRoom have need) w a = absurd w
 write_agrees plain old new image path bytes (reply.GroupFault group) w a = absurd w
-write_agrees plain old new image path bytes (reply.CopiesFault group told) w a = absurd w
+write_agrees plain old new image path bytes (reply.Damaged group vsn place) w a = absurd w
+write_agrees plain old new image path bytes (reply.AllCopies copies) w a = absurd w
+write_agrees plain old new image path bytes reply.NoGroup w a = absurd w
+write_agrees plain old new image path bytes reply.QueueFull w a = absurd w
+write_agrees plain old new image path bytes reply.NoSave w a = absurd w
+write_agrees plain old new image path bytes reply.NoBitfile w a = absurd w
+write_agrees plain old new image path bytes (reply.Rewritten vsn was found) w a = absurd w
 write_agrees plain old new image path bytes reply.Syntax w a = absurd w
 
 pub write_answer : (plain : Namespace) (old new : State) (image path bytes : List ℕ) (answer : Reply) (item : Heard) (asked : Command)

@@ -8,17 +8,17 @@ use Rattle.dm_proto.specs.Stream.{Ending, AtEnd, Inside, TooLong, Ends}
 use Rattle.dm_proto.specs.Reading.{MayBegin}
 use Rattle.dm_proto.proofs.Hearing.{blank_none, hears_end, hears_from, hears_some}
 use Rattle.dm_proto.proofs.Steps.{inside_ends}
-use Rattle.dm_plain.specs.Namespace.{Namespace, no_files, bytes_of}
+use Rattle.dm_plain.specs.Namespace.{Namespace, bytes_of}
 use Rattle.dm_plain.proofs.Laws.{bytes_of-no_files}
 use Rattle.dm_site.specs.declared.session.Stop.{Stop}
 use Rattle.dm_site.specs.declared.session.Stop.TheVariants as stop
 use Rattle.dm_site.specs.State.{State, beginning, Agrees}
-use Rattle.dm_site.specs.Session.{Entry, Run, heard_of, faults_of, replies_of, plain_step, plain_from, plain_of, ReadsFrom, ReadsPlain, Counts}
+use Rattle.dm_site.specs.Session.{Entry, Run, heard_of, faults_of, replies_of, plain_step, plain_from, no_file, plain_of, ReadsFrom, ReadsPlain, Counts}
 use Rattle.dm_site.specs.Talk.{Standing, Talk, Stopped}
 use Rattle.dm_site.specs.declared.status.Status.{Status}
 use Rattle.dm_site.specs.declared.status.Status.TheVariants as status
 use Rattle.dm_site.specs.Status.{number_of, status_of, EndsReader}
-use Rattle.dm_site.specs.Script.{TakenFrom, ReadToEnd, AllAnswered, FrontHeard, CutShort, Ended, ReachedEnd, EndedInside, LineTooLong, SourceFailed, BytesUsedUp, ReplyCut, OutOfMemory, NotBegun, IsScript}
+use Rattle.dm_site.specs.Script.{FaultsCounted, TakenFrom, ReadToEnd, AllAnswered, FrontHeard, CutShort, Ended, ReachedEnd, EndedInside, LineTooLong, SourceFailed, BytesUsedUp, ReplyCut, OutOfMemory, NotBegun, IsScript}
 use Rattle.dm_site.specs.Listening.{Listened}
 use Rattle.dm_reply.proofs.Taking.{took_none}
 use Rattle.dm_site.proofs.Talking.{talk_none, talk_more, talk_then, stopped_then}
@@ -41,12 +41,12 @@ reads_at : (plain : Namespace) (before after : List Entry) (path bytes : List �
 reads_at plain [] after path bytes faults h = h.0
 reads_at plain (e ∷ before) after path bytes faults h = reads_at (plain_step plain e.heard e.reply) before after path bytes faults h.1
 
-pub reads_plain : (entries : List Entry) → ReadsFrom no_files entries → ReadsPlain entries
-reads_plain entries h before after path bytes faults e = reads_at no_files before after path bytes faults (subst (ReadsFrom no_files) e h)
+pub reads_plain : (entries : List Entry) → ReadsFrom no_file entries → ReadsPlain entries
+reads_plain entries h before after path bytes faults e = reads_at no_file before after path bytes faults (subst (ReadsFrom no_file) e h)
 
 -- no file is there, and none in the namespace
-agrees_none : (s : State) (image : List ℕ) → s ≡ beginning → Agrees no_files s image
-agrees_none s image e = subst (λ (t : State). Agrees no_files t image) (sym e) (λ path. bytes_of-no_files path)
+agrees_none : (s : State) (image : List ℕ) → s ≡ beginning → Agrees no_file s image
+agrees_none s image e = subst (λ (t : State). Agrees no_file t image) (sym e) (λ path. bytes_of-no_files 0 path)
 
 -- a whole run
 pub script_of : (told : Bool) (before after : Option (List ℕ)) (old new : Standing) (input left missing : List ℕ) (status : ℕ) (t : Talk told old new input left missing)
@@ -61,9 +61,9 @@ script_of told before after old new input left missing status t begins took ende
   gave = t.took;
   run = subst (λ (s : State). Run s t.entries new.state) begins t.run;
   ended = ended;
-  faults = t.counts;
-  reads = λ yes. reads_plain t.entries (t.plain yes no_files (agrees_none old.state old.image begins)).1;
-  holds = λ yes _ _. (t.plain yes no_files (agrees_none old.state old.image begins)).0;
+  faults = inl t.counts;
+  reads = λ yes. reads_plain t.entries (t.plain yes no_file (agrees_none old.state old.image begins)).1;
+  holds = λ yes _ _. (t.plain yes no_file (agrees_none old.state old.image begins)).0;
 }
 
 -- all that was heard was answered
@@ -189,8 +189,9 @@ listened_front told told' a b c old mid new more n begun buffer begun' same l to
     (listened_more told told' a b c old mid new more begun (take n buffer) begun' same l took (omega (arith, long, few)) t)
 
 -- nothing was begun
-pub script_none : (told : Bool) (before taken : Option (List ℕ)) (old new : ℕ) (image : List ℕ) (s : ℕ) → (s ≡ 1) ⊎ (s ≡ 6) → old ≤ new → IsScript told before before taken taken old new image s
-script_none told before taken old new image s which kept = record {
+pub script_none : (told : Bool) (before taken : Option (List ℕ)) (old new : ℕ) (image : List ℕ) (s : ℕ) → (s ≡ 1) ⊎ (s ≡ 6) → FaultsCounted s 0 old new
+    → IsScript told before before taken taken old new image s
+script_none told before taken old new image s which faults = record {
   input = [];
   output = [];
   entries = [];
@@ -199,36 +200,18 @@ script_none told before taken old new image s which kept = record {
   gave = took_none taken;
   run = refl;
   ended = NotBegun which refl refl refl;
-  faults = record { kept = kept; bounded = inl (omega (arith, kept)) };
+  faults = faults;
   reads = λ _. reads_plain [] tt;
   holds = λ _ six one. absurd (elim which [ inl e ↦ one e | inr e ↦ six e ]);
 }
 
-counts_earlier : (m a b c : ℕ) → a ≤ b → Counts m b c → Counts m a c
-counts_earlier m a b c le h = record { kept = omega (arith, le, h.kept); bounded = earlier_bound m a b c le h.bounded } where
-  earlier_bound : (m a b c : ℕ) → a ≤ b → (b + m ≤ c) ⊎ (18446744073709551615 ≤ c) → (a + m ≤ c) ⊎ (18446744073709551615 ≤ c)
-  earlier_bound m a b c le (inl x) = inl (omega (arith, le, x))
-  earlier_bound m a b c le (inr last) = inr last
-
--- faults are counted from an earlier count too
-pub script_earlier : (told told' : Bool) (before after taken given : Option (List ℕ)) (old mid new : ℕ) (image : List ℕ) (s s' : ℕ) → told' ≡ told → s' ≡ s → old ≤ mid
+-- an opening that didn't fail left the count
+pub script_opened : (told told' : Bool) (before after taken given : Option (List ℕ)) (old mid new : ℕ) (image : List ℕ) (s s' : ℕ) → told' ≡ told → s' ≡ s → mid ≡ old
     → IsScript told' before after taken given mid new image s → IsScript told before after taken given old new image s'
-script_earlier told told' before after taken given old mid new image s s' same is kept p =
+script_opened told told' before after taken given old mid new image s s' same is kept p =
     subst (λ (d : Bool). IsScript d before after taken given old new image s') same
     (subst (λ (n : ℕ). IsScript told' before after taken given old new image n) (sym is)
-    (record {
-      input = p.input;
-      output = p.output;
-      entries = p.entries;
-      final = p.final;
-      took = p.took;
-      gave = p.gave;
-      run = p.run;
-      ended = p.ended;
-      faults = counts_earlier (faults_of p.entries) old mid new kept p.faults;
-      reads = p.reads;
-      holds = p.holds;
-    }))
+    (subst (λ (n : ℕ). IsScript told' before after taken given n new image s) kept p))
 
 -- which status has a number
 pub status_is : (s : Status) (n : ℕ) → n ≡ number_of s → ((n ≡ 4) → s ≡ status.SourceFailed) × ((n ≡ 5) → s ≡ status.ReplyCut) × ((n ≡ 6) → s ≡ status.DeviceFailed) × ((n ≡ 1) → s ≡ status.NoRun)

@@ -1,5 +1,5 @@
 -- Parts of a session, one after another.
-use Rattle.std.proofs.Common.{◌≡◌, ℕ, ◌+◌, ◌≤◌, List, [], ◌∷◌, ◌++◌, Option, Some, None, Bool, IsTrue, ◌<◌, length, take, drop, refl, sym, ◌∙◌, ap, subst, inl, inr, ◌⊎◌, arith, append_assoc}
+use Rattle.std.proofs.Common.{◌≡◌, ℕ, ◌+◌, ◌≤◌, zero, suc, List, [], ◌∷◌, ◌++◌, Option, Some, None, Bool, IsTrue, ◌<◌, length, take, drop, refl, sym, ◌∙◌, ap, subst, inl, inr, ◌⊎◌, arith, append_assoc}
 use Rattle.std.proofs.lemmas.List.{append-nil, take-append-drop}
 use Rattle.std.proofs.Math.Seq.{take-add}
 use Rattle.std.specs.Option.{option_to_list}
@@ -8,6 +8,7 @@ use Rattle.dm_proto.specs.declared.heard.Heard.{Heard}
 use Rattle.dm_proto.proofs.Hearing.{consumes_none, consumes_on, consumes_more}
 use Rattle.dm_base.specs.declared.reply.Reply.{Reply}
 use Rattle.dm_reply.specs.Text.{text_of}
+use Rattle.dm_host.specs.Count.{raised}
 use Rattle.dm_reply.specs.Took.{Took}
 use Rattle.dm_reply.proofs.Taking.{took_none, took_more}
 use Rattle.dm_plain.specs.Namespace.{Namespace}
@@ -43,15 +44,8 @@ reads_then plain [] fs h k = k
 reads_then plain (e ∷ es) fs h k = (h.0, reads_then (plain_step plain e.heard e.reply) es fs h.1 k)
 
 pub counts_then : (m n a b c : ℕ) → Counts m a b → Counts n b c → Counts (m + n) a c
-counts_then m n a b c h k = record {
-  kept = omega (arith, h.kept, k.kept);
-  bounded = counts_bound m n a b c h.bounded k.bounded k.kept;
-} where
-  counts_bound : (m n a b c : ℕ) → (a + m ≤ b) ⊎ (18446744073709551615 ≤ b) → (b + n ≤ c) ⊎ (18446744073709551615 ≤ c) → b ≤ c
-      → (a + (m + n) ≤ c) ⊎ (18446744073709551615 ≤ c)
-  counts_bound m n a b c (inr last) y le = inr (omega (arith, last, le))
-  counts_bound m n a b c (inl x) (inr last) le = inr last
-  counts_bound m n a b c (inl x) (inl y) le = inl (omega (arith, x, y))
+counts_then zero n a b c h k = subst (λ (l : ℕ). Counts l a c) (let e : n ≡ zero + n = omega arith in e) (subst (λ (x : ℕ). Counts n x c) h k)
+counts_then (suc m) n a b c h k = subst (λ (l : ℕ). Counts l a c) (let e : suc (m + n) ≡ suc m + n = omega arith in e) (counts_then m n (raised 1 a) b c h k)
 
 -- nothing was heard yet
 pub talk_none : (told : Bool) (at : Standing) (input : List ℕ) → Talk told at at input input []
@@ -62,7 +56,7 @@ talk_none told at input = record {
   consumes = consumes_none input;
   said = refl;
   took = took_none at.taken;
-  counts = record { kept = omega arith; bounded = inl (omega arith) };
+  counts = refl;
   plain = λ t plain agrees. (agrees, tt);
 }
 
@@ -179,7 +173,7 @@ talk_idle told at input left left' ready result consumes e none same = record {
       (subst (λ (o : Option Heard). Consumes input (option_to_list o) left) (sym e ∙ none) consumes);
   said = refl;
   took = took_none at.taken;
-  counts = record { kept = omega arith; bounded = inl (omega arith) };
+  counts = refl;
   plain = λ t plain agrees. (agrees, tt);
 }
 

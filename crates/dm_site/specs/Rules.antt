@@ -1,5 +1,5 @@
 -- What a command is answered, and what it leaves.
-use Rattle.std.specs.Prelude.{◌≡◌, ◌⊎◌, ℕ, ◌+◌, ◌*◌, ◌^◌, ◌<◌, ◌≤◌, if◌then◌else◌, ◌==◌, List, length, Option, Some, None}
+use Rattle.std.specs.Prelude.{◌≡◌, ◌⊎◌, ℕ, ◌+◌, ◌*◌, ◌^◌, ◌<◌, ◌≤◌, if◌then◌else◌, ◌==◌, List, [], ◌∷◌, length, Option, Some, None}
 use Rattle.dm_base.specs.declared.command.Command.{Command}
 use Rattle.dm_base.specs.declared.command.Command.TheVariants as command
 use Rattle.dm_base.specs.declared.reply.Reply.{Reply}
@@ -8,8 +8,10 @@ use Rattle.dm_base.specs.declared.reply.FileState.{FileState}
 use Rattle.dm_base.specs.declared.reply.FileState.TheVariants as found
 use Rattle.dm_base.specs.declared.identifier.Bfid.{Bfid}
 use Rattle.dm_base.specs.declared.identifier.GroupId.{GroupId}
+use Rattle.dm_base.specs.declared.error.CopyFault.{CopyFault}
+use Rattle.dm_base.specs.Limits.{file_limit, number_limit}
 use Rattle.dm_rules.specs.Room.{room}
-use Rattle.dm_rules.specs.Zone.{chunk_header}
+use Rattle.dm_rules.specs.Version.{first_version}
 use Rattle.dm_proto.specs.declared.heard.Heard.{Heard}
 use Rattle.dm_proto.specs.declared.heard.Heard.TheVariants as heard
 use Rattle.dm_site.specs.declared.file.File.{File}
@@ -18,10 +20,6 @@ use Rattle.dm_site.specs.declared.file.Form.TheVariants as form
 use Rattle.dm_site.specs.Files.{Sets}
 use Rattle.dm_site.specs.Zones.{IsZone}
 use Rattle.dm_site.specs.State.{State}
-
--- the last number of a change, and of a bitfile's counter
-abbrev pub last_number : ℕ
-last_number = 9223372036854775807
 
 -- The one volume: its size, and the most bytes of one chunk on it. A zone of one chunk has 80 bytes before
 -- the chunk's bytes.
@@ -52,7 +50,7 @@ pub record Unchanged (old : State) (faults : ℕ) (new : State) : Type 0 where
 
 -- a write is done: the file is new, or has the bytes in place of its own
 pub record IsWritten (old : State) (path bytes : List ℕ) (change : ℕ) (new : State) : Type 0 where
-  pub unused : old.last_change < last_number
+  pub unused : old.last_change < number_limit
   pub next : change ≡ old.last_change + 1
   pub sets : Sets old.file_at new.file_at path (record { change = change; form = form.Regular bytes })
   pub last_change : new.last_change ≡ change
@@ -61,8 +59,8 @@ pub record IsWritten (old : State) (path bytes : List ℕ) (change : ℕ) (new :
 
 -- the change number before was the last
 pub record ChangesUsedUp (old : State) (limit : ℕ) : Type 0 where
-  pub used_up : old.last_change ≡ last_number
-  pub limit_is : limit ≡ last_number
+  pub used_up : old.last_change ≡ number_limit
+  pub limit_is : limit ≡ number_limit
 
 -- the answer to a write
 abbrev pub Writes : State → List ℕ → List ℕ → ℕ → Reply → State → Type 0
@@ -74,7 +72,7 @@ Writes old path bytes faults other new = ⊥
 -- the file is online and not stored, with these bytes, and a counter is left for its bitfile
 pub record MayBePut (old : State) (path bytes : List ℕ) (change : ℕ) : Type 0 where
   pub regular : old.file_at path ≡ Some (record { change = change; form = form.Regular bytes })
-  pub unused : old.next_counter ≤ last_number
+  pub unused : old.next_counter ≤ number_limit
 
 -- the put has taken its counter, and the tip stands here
 pub record Took (old : State) (after : ℕ) (new : State) : Type 0 where
@@ -87,7 +85,7 @@ pub record IsStored (old : State) (path : List ℕ) (faults : ℕ) (bfid : Bfid)
   pub bytes : List ℕ
   pub change : ℕ
   pub may : MayBePut old path bytes change
-  pub fits : length bytes ≤ room chunk_header volume_size old.tip chunk_size
+  pub fits : length bytes ≤ room first_version volume_size old.tip chunk_size
   pub no_fault : faults ≡ 0
   pub bfid_is : bfid ≡ bfid_of old.next_counter
   pub sets : Sets old.file_at new.file_at path (record { change = change; form = form.Offline (length bytes) (bfid_of old.next_counter) (old.tip + zone_front) })
@@ -99,7 +97,7 @@ pub record StoreFailed (old : State) (path : List ℕ) (faults : ℕ) (group : G
   pub change : ℕ
   pub may : MayBePut old path bytes change
   pub some : 0 < length bytes
-  pub fits : length bytes ≤ room chunk_header volume_size old.tip chunk_size
+  pub fits : length bytes ≤ room first_version volume_size old.tip chunk_size
   pub fault : 0 < faults
   pub group_is : group ≡ group_of
   pub files : new.file_at ≡ old.file_at
@@ -110,7 +108,7 @@ pub record LacksRoom (old : State) (path : List ℕ) (faults have need : ℕ) (n
   pub bytes : List ℕ
   pub change : ℕ
   pub may : MayBePut old path bytes change
-  pub have_is : have ≡ room chunk_header volume_size old.tip chunk_size
+  pub have_is : have ≡ room first_version volume_size old.tip chunk_size
   pub need_is : need ≡ length bytes
   pub lacks : have < need
   pub no_fault : faults ≡ 0
@@ -133,8 +131,8 @@ pub record CountersUsedUp (old : State) (path : List ℕ) (limit : ℕ) : Type 0
   pub bytes : List ℕ
   pub change : ℕ
   pub regular : old.file_at path ≡ Some (record { change = change; form = form.Regular bytes })
-  pub used_up : old.next_counter ≡ last_number + 1
-  pub limit_is : limit ≡ last_number
+  pub used_up : old.next_counter ≡ number_limit + 1
+  pub limit_is : limit ≡ number_limit
 
 -- the answer to a put with release
 abbrev pub Puts : State → List ℕ → ℕ → Reply → State → Type 0
@@ -175,7 +173,7 @@ pub record IsRecalled (old : State) (path bytes : List ℕ) (new : State) : Type
   pub tip : new.tip ≡ old.tip
 
 -- the one copy couldn't be read, for so many faults of the volume's device
-pub record RecallFailed (old : State) (path : List ℕ) (faults : ℕ) (group : GroupId) (told : ℕ) (new : State) : Type 0 where
+pub record RecallFailed (old : State) (path : List ℕ) (faults : ℕ) (copies : List (Option CopyFault)) (new : State) : Type 0 where
   pub len : ℕ
   pub change : ℕ
   pub bfid : Bfid
@@ -183,8 +181,7 @@ pub record RecallFailed (old : State) (path : List ℕ) (faults : ℕ) (group : 
   pub offline : IsOffline old path len change bfid place
   pub some : 0 < len
   pub fault : 0 < faults
-  pub group_is : group ≡ group_of
-  pub told_is : told ≡ faults
+  pub copies_are : copies ≡ Some (record { group = group_of; faults = faults; damaged = None }) ∷ None ∷ []
   pub same : new ≡ old
 
 -- the answer to a read
@@ -192,7 +189,7 @@ abbrev pub Reads : State → List ℕ → ℕ → Reply → State → Type 0
 Reads old path faults (reply.Content bytes) new =
     (faults ≡ 0) × ((IsOnline old path bytes × (new ≡ old)) ⊎ IsRecalled old path bytes new)
 Reads old path faults reply.NoFile new = (old.file_at path ≡ None) × Unchanged old faults new
-Reads old path faults (reply.CopiesFault group told) new = RecallFailed old path faults group told new
+Reads old path faults (reply.AllCopies copies) new = RecallFailed old path faults copies new
 Reads old path faults reply.NoMemory new = Unchanged old faults new
 Reads old path faults other new = ⊥
 
@@ -206,11 +203,13 @@ pub record CanStore (tip : ℕ) (bytes zone : List ℕ) (len : ℕ) (bfid : Bfid
   pub is_zone : IsZone zone bytes
   pub len_is : len ≡ length bytes
   pub bfid_is : bfid ≡ bfid_of counter
-  pub fits : length bytes ≤ room chunk_header volume_size tip chunk_size
+  pub fits : length bytes ≤ room first_version volume_size tip chunk_size
 
--- A step: what is heard, the faults that the device reported meanwhile, the reply, and what it leaves.
+-- A step: what is heard, the faults that the device reported meanwhile, the reply, and what it leaves. A command that
+-- the program doesn't do yet is answered as a line that is none.
 abbrev pub Step : State → Heard → ℕ → Reply → State → Type 0
 Step old (heard.Command (command.Write path bytes)) faults answer new = Writes old path bytes faults answer new
+Step old (heard.Command (command.LongWrite path len)) faults answer new = (answer ≡ reply.Limit file_limit) × Unchanged old faults new
 Step old (heard.Command (command.PutRelease path)) faults answer new = Puts old path faults answer new
 Step old (heard.Command (command.Read path)) faults answer new = Reads old path faults answer new
-Step old heard.Syntax faults answer new = (answer ≡ reply.Syntax) × Unchanged old faults new
+Step old other faults answer new = (answer ≡ reply.Syntax) × Unchanged old faults new

@@ -1,5 +1,6 @@
 -- What a whole run of the program says, by its status.
 use Rattle.std.specs.Prelude.{◌≡◌, ◌≢◌, ◌⊎◌, ℕ, ◌<◌, ◌≤◌, List, [], ◌∷◌, ◌++◌, length, codes, map, Option, Some, None, IfSome, IsTrue, Bool, ⊤}
+use Rattle.dm_host.specs.Count.{Rose}
 use Rattle.dm_reply.specs.Took.{Took}
 use Rattle.dm_proto.specs.Stream.{Hears, Ending, AtEnd, Inside, TooLong}
 use Rattle.dm_proto.specs.declared.heard.Heard.{Heard}
@@ -54,6 +55,10 @@ pub data Ended (status : ℕ) (rest : Option (List ℕ)) (input output : List �
   -- nothing was read: the words aren't those of a run, or the device failed at the opening
   NotBegun : (status ≡ 1) ⊎ (status ≡ 6) → input ≡ [] → output ≡ [] → entries ≡ [] → Ended status rest input output entries
 
+-- The device's faults are those of the entries, or the one of an opening that failed.
+abbrev pub FaultsCounted : ℕ → ℕ → ℕ → ℕ → Type 0
+FaultsCounted status faults old new = Counts faults old new ⊎ ((status ≡ 6) × Rose old new)
+
 -- A run of the program. `left` and `rest` are what the source had before and after it, `taken` and `given` what the
 -- sink had taken, `old` and `new` the device's count of faults, `image` the volume's file after it.
 pub record IsScript (told : Bool) (left rest taken given : Option (List ℕ)) (old new : ℕ) (image : List ℕ) (status : ℕ) : Type 0 where
@@ -65,6 +70,6 @@ pub record IsScript (told : Bool) (left rest taken given : Option (List ℕ)) (o
   pub gave : Took taken given output
   pub run : Run beginning entries final
   pub ended : Ended status rest input output entries
-  pub faults : Counts (faults_of entries) old new
+  pub faults : FaultsCounted status (faults_of entries) old new
   pub reads : IsTrue told → ReadsPlain entries
   pub holds : IsTrue told → status ≢ 6 → status ≢ 1 → Agrees (plain_of entries) final image

@@ -1,5 +1,5 @@
 -- A run of a session: what was heard, with its replies.
-use Rattle.std.specs.Prelude.{◌≡◌, ◌⊎◌, ℕ, ◌+◌, ◌≤◌, List, [], ◌∷◌, ◌++◌, map, Option, Some, None}
+use Rattle.std.specs.Prelude.{◌≡◌, ℕ, zero, suc, ◌+◌, List, [], ◌∷◌, ◌++◌, map, Option, Some, None}
 use Rattle.std.specs.List.{flat_map}
 use Rattle.dm_base.specs.declared.command.Command.TheVariants as command
 use Rattle.dm_base.specs.declared.reply.Reply.{Reply}
@@ -7,6 +7,7 @@ use Rattle.dm_base.specs.declared.reply.Reply.TheVariants as reply
 use Rattle.dm_proto.specs.declared.heard.Heard.{Heard}
 use Rattle.dm_proto.specs.declared.heard.Heard.TheVariants as heard
 use Rattle.dm_reply.specs.Text.{text_of}
+use Rattle.dm_host.specs.Count.{raised}
 use Rattle.dm_plain.specs.Namespace.{Namespace, no_files, written, bytes_of}
 use Rattle.dm_site.specs.State.{State}
 use Rattle.dm_site.specs.Rules.{Step}
@@ -43,9 +44,13 @@ abbrev pub plain_from : Namespace → List Entry → Namespace
 plain_from plain [] = plain
 plain_from plain (e ∷ es) = plain_from (plain_step plain e.heard e.reply) es
 
+-- the plain namespace that a session begins with; its commands don't look at ages
+abbrev pub no_file : Namespace
+no_file = no_files 0
+
 -- the plain namespace after these entries
 abbrev pub plain_of : List Entry → Namespace
-plain_of entries = plain_from no_files entries
+plain_of entries = plain_from no_file entries
 
 -- Each read that is answered with bytes is answered with those that the plain namespace has by then.
 abbrev pub ReadsPlain : List Entry → Type 0
@@ -63,7 +68,7 @@ abbrev pub ReadsFrom : Namespace → List Entry → Type 0
 ReadsFrom plain [] = Unit {0}
 ReadsFrom plain (e ∷ es) = ReadIs plain e.heard e.reply × ReadsFrom (plain_step plain e.heard e.reply) es
 
--- At most so many calls failed: each raised the count, unless it stands at its last value.
-pub record Counts (faults old new : ℕ) : Type 0 where
-  pub kept : old ≤ new
-  pub bounded : (old + faults ≤ new) ⊎ (18446744073709551615 ≤ new)
+-- Exactly so many calls failed: each raised the count by one, up to its last value, and no other call changed it.
+abbrev pub Counts : ℕ → ℕ → ℕ → Type 0
+Counts zero old new = new ≡ old
+Counts (suc n) old new = Counts n (raised 1 old) new

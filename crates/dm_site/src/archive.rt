@@ -3,31 +3,33 @@
 //! The volume is one file of the storage device: a label, and zones from place 64 on. `tip` is where the
 //! next zone goes. It moves past a zone whether or not its write succeeded, so that no two zones overlap.
 
-ghost use Rattle.std.specs.Prelude.{◌≡◌, ◌+◌, ◌*◌, ◌^◌, ◌≤◌, ◌<◌, ℕ, List, Some, None, [], length, drop, IsTrue, OnOk, OnErr, IfOk, IfErr};
+ghost use Rattle.std.specs.Prelude.{◌≡◌, ◌≢◌, ◌+◌, ◌*◌, ◌^◌, ◌≤◌, ◌<◌, ℕ, List, Some, None, [], length, drop, IsTrue, OnOk, OnErr, IfOk, IfErr};
 ghost use Rattle.dm_host.specs.Count.{HasCause, Rose};
-ghost use Rattle.dm_host.specs.Disk.{part, Torn, Written};
+ghost use Rattle.dm_host.specs.Disk.{part, Tells, Torn, Written};
 ghost use Rattle.dm_plain.specs.Namespace.{Namespace, bytes_of};
 ghost use Rattle.dm_site.specs.Files.{end_of, file_in};
 ghost use Rattle.dm_site.specs.Zones.{IsZone, IsCopy};
 
 use crate::file::{File, Form, set_file, set_form};
-use dm_base::{Bfid, Bytes, Command, FileState, GroupId, NoMemory, Path, Reply};
+use dm_base::{
+    Bfid, Bytes, Command, CopyFault, FILE_LIMIT, FileState, GroupId, NUMBER_LIMIT, NoMemory, Path,
+    Reply, Vsn,
+};
 use dm_host::{Bay, Failed, write_synced};
 use dm_proto::Heard;
 use dm_zone::{encode_zone, label, room};
 use std::alloc::Global;
 use std::collections::BTreeMap;
 
-/// The last number of a change, and of a bitfile's counter.
-pub(crate) const LAST_NUMBER: u64 = 9_223_372_036_854_775_807;
-
-// The one volume: its serial number, its group, the device's file of its image, its size and the epoch
-// of its label.
+// The one volume: its serial number, its group, the device's file of its image, its version, its size and
+// the epoch of its label.
 const VOLUME: &[u8; 6] = b"AA0001";
 
 const GROUP: GroupId = GroupId(1);
 
 const VOLUME_FILE: u32 = 16;
+
+const VERSION: u8 = 1;
 
 const VOLUME_SIZE: u64 = 424;
 
@@ -70,7 +72,7 @@ impl Archive {
         ensures told { (B.disk bay.new).told ≡ (B.disk bay.old).told }
         ensures cause { HasCause (B.count bay.old) (B.count bay.new) result }
     {
-        let label = label(VOLUME, GROUP, EPOCH, VOLUME_SIZE);
+        let label = label(VOLUME, GROUP, VERSION, EPOCH, VOLUME_SIZE);
         write_synced(bay, VOLUME_FILE, 0, &label)?;
         Ok(Archive {
             files: BTreeMap::new(alloc),
@@ -98,14 +100,42 @@ impl Archive {
     pub(crate) fn answer<B: Bay>(&mut self, alloc: Global, bay: &mut B, heard: Heard) -> Reply
         ensures step { (faults : ℕ) × Step (state_of self.old) heard faults result (state_of self.new) × Counts faults (B.count bay.old) (B.count bay.new) }
         ensures told { (B.disk bay.new).told ≡ (B.disk bay.old).told }
-        ensures agrees { IsTrue (B.disk bay.old).told → (plain : Namespace) → Agrees plain (state_of self.old) ((B.disk bay.old).seen 16)
+        ensures agrees { Tells (B.disk bay.old) 16 → (plain : Namespace) → Agrees plain (state_of self.old) ((B.disk bay.old).seen 16)
             → Agrees (plain_step plain heard result) (state_of self.new) ((B.disk bay.new).seen 16) × ReadIs plain heard result }
     {
         match heard {
-            Heard::Syntax => Reply::Syntax,
             Heard::Command(Command::Write { path, bytes }) => self.write(path, bytes),
+            Heard::Command(Command::LongWrite { .. }) => Reply::Limit { limit: FILE_LIMIT },
             Heard::Command(Command::PutRelease { path }) => self.put_release(alloc, bay, &path),
             Heard::Command(Command::Read { path }) => self.read(alloc, bay, &path),
+            // What isn't done yet. What a command brings was heard with it, so nothing of it is left to be
+            // read as lines.
+            Heard::Command(Command::Patch { .. }) => Reply::Syntax,
+            Heard::Command(Command::LongPatch { .. }) => Reply::Syntax,
+            Heard::Command(Command::Put { .. }) => Reply::Syntax,
+            Heard::Command(Command::Get { .. }) => Reply::Syntax,
+            Heard::Command(Command::Release { .. }) => Reply::Syntax,
+            Heard::Command(Command::Remove { .. }) => Reply::Syntax,
+            Heard::Command(Command::List) => Reply::Syntax,
+            Heard::Command(Command::Attr { .. }) => Reply::Syntax,
+            Heard::Command(Command::Dump { .. }) => Reply::Syntax,
+            Heard::Command(Command::Undump { .. }) => Reply::Syntax,
+            Heard::Command(Command::Restore { .. }) => Reply::Syntax,
+            Heard::Command(Command::HardDelete) => Reply::Syntax,
+            Heard::Command(Command::Age { .. }) => Reply::Syntax,
+            Heard::Command(Command::Merge { .. }) => Reply::Syntax,
+            Heard::Command(Command::Reuse { .. }) => Reply::Syntax,
+            Heard::Command(Command::Volumes { .. }) => Reply::Syntax,
+            Heard::Command(Command::Space) => Reply::Syntax,
+            Heard::Command(Command::Move { .. }) => Reply::Syntax,
+            Heard::Command(Command::Snap { .. }) => Reply::Syntax,
+            Heard::Command(Command::Unsnap { .. }) => Reply::Syntax,
+            Heard::Command(Command::Salvage { .. }) => Reply::Syntax,
+            Heard::Command(Command::Audit) => Reply::Syntax,
+            Heard::Command(Command::AuditDeep) => Reply::Syntax,
+            Heard::Command(Command::Quit) => Reply::Syntax,
+            Heard::Command(Command::Shutdown) => Reply::Syntax,
+            Heard::Syntax => Reply::Syntax,
         }
     }
 
@@ -113,8 +143,10 @@ impl Archive {
     pub(crate) fn write(&mut self, path: Path, bytes: Bytes) -> Reply
         ensures { Writes (state_of self.old) path bytes 0 result (state_of self.new) }
     {
-        if self.last_change == LAST_NUMBER {
-            return Reply::Limit { limit: LAST_NUMBER };
+        if self.last_change == NUMBER_LIMIT {
+            return Reply::Limit {
+                limit: NUMBER_LIMIT,
+            };
         }
         let change = self.last_change + 1;
         let form = Form::Regular(bytes);
@@ -131,18 +163,20 @@ impl Archive {
     pub(crate) fn put_release<B: Bay>(&mut self, alloc: Global, bay: &mut B, path: &Path) -> Reply
         ensures step { (faults : ℕ) × Puts (state_of self.old) path.now faults result (state_of self.new) × Counts faults (B.count bay.old) (B.count bay.new) }
         ensures told { (B.disk bay.new).told ≡ (B.disk bay.old).told }
-        ensures agrees { IsTrue (B.disk bay.old).told → (plain : Namespace) → Agrees plain (state_of self.old) ((B.disk bay.old).seen 16)
+        ensures agrees { Tells (B.disk bay.old) 16 → (plain : Namespace) → Agrees plain (state_of self.old) ((B.disk bay.old).seen 16)
             → Agrees plain (state_of self.new) ((B.disk bay.new).seen 16) }
     {
         let bytes = match self.regular(path) {
             Ok(bytes) => bytes,
             Err(refusal) => return refusal,
         };
-        if self.next_counter > LAST_NUMBER {
-            return Reply::Limit { limit: LAST_NUMBER };
+        if self.next_counter > NUMBER_LIMIT {
+            return Reply::Limit {
+                limit: NUMBER_LIMIT,
+            };
         }
         let need = bytes.len() as u64;
-        let have = room(VOLUME_SIZE, self.tip, CHUNK_SIZE);
+        let have = room(VERSION, VOLUME_SIZE, self.tip, CHUNK_SIZE);
         if have < need {
             self.next_counter += 1;
             return Reply::NoRoom { have, need };
@@ -189,7 +223,7 @@ impl Archive {
             → (faults : ℕ) × Puts (state_of self.old) path.now faults result (state_of self.new) × Counts faults (B.count bay.old) (B.count bay.new) }
         ensures told { (B.disk bay.new).told ≡ (B.disk bay.old).told }
         ensures agrees { (bytes : List ℕ) (change : ℕ) → MayBePut (state_of self.old) path.now bytes change → CanStore self.old.tip bytes zone.now len bfid self.old.next_counter
-            → IsTrue (B.disk bay.old).told → (plain : Namespace) → Agrees plain (state_of self.old) ((B.disk bay.old).seen 16)
+            → Tells (B.disk bay.old) 16 → (plain : Namespace) → Agrees plain (state_of self.old) ((B.disk bay.old).seen 16)
             → Agrees plain (state_of self.new) ((B.disk bay.new).seen 16) }
     {
         let tip = self.tip;
@@ -207,7 +241,7 @@ impl Archive {
     pub(crate) fn read<B: Bay>(&mut self, alloc: Global, bay: &mut B, path: &Path) -> Reply
         ensures step { (faults : ℕ) × Reads (state_of self.old) path.now faults result (state_of self.new) × Counts faults (B.count bay.old) (B.count bay.new) }
         ensures told { (B.disk bay.new).told ≡ (B.disk bay.old).told }
-        ensures agrees { IsTrue (B.disk bay.old).told → (plain : Namespace) → Agrees plain (state_of self.old) ((B.disk bay.old).seen 16)
+        ensures agrees { Tells (B.disk bay.old) 16 → (plain : Namespace) → Agrees plain (state_of self.old) ((B.disk bay.old).seen 16)
             → Agrees plain (state_of self.new) ((B.disk bay.new).seen 16) × IsContent result (bytes_of path.now plain) }
     {
         let (len, bfid, place) = match self.files.get(path) {
@@ -229,9 +263,15 @@ impl Archive {
                 Reply::Content { bytes }
             }
             Err(RecallError::NoMemory) => Reply::NoMemory,
-            Err(RecallError::Failed) => Reply::CopiesFault {
-                group: GROUP,
-                faults: 1,
+            Err(RecallError::Failed) => Reply::AllCopies {
+                copies: [
+                    Some(CopyFault {
+                        group: GROUP,
+                        faults: 1,
+                        damaged: None,
+                    }),
+                    None,
+                ],
             },
         }
     }
@@ -262,7 +302,16 @@ fn zone_of(alloc: Global, bfid: Bfid, bytes: &[u8]) -> Result<Vec<u8>, NoMemory>
     if bytes.is_empty() {
         return Ok(Vec::new(alloc));
     }
-    encode_zone(alloc, EPOCH, bfid, bytes.len() as u64, 0, bytes, CHUNK_SIZE)
+    encode_zone(
+        alloc,
+        EPOCH,
+        VERSION,
+        bfid,
+        bytes.len() as u64,
+        0,
+        bytes,
+        CHUNK_SIZE,
+    )
 }
 
 // Writes a zone to the volume; one without bytes isn't written.
@@ -270,8 +319,8 @@ fn write_zone<B: Bay>(bay: &mut B, tip: u64, zone: &[u8]) -> Result<(), Failed>
     requires { tip + length zone.now ≤ 424 }
     ensures none { zone.now ≡ [] → OnOk result ((B.disk bay.new).seen 16 ≡ (B.disk bay.old).seen 16) }
     ensures some { OnErr result (0 < length zone.now) }
-    ensures written { 0 < length zone.now → IsTrue (B.disk bay.old).told → OnOk result (Written tip zone.now ((B.disk bay.old).seen 16) ((B.disk bay.new).seen 16)) }
-    ensures torn { 0 < length zone.now → IsTrue (B.disk bay.old).told → Torn tip (length zone.now) ((B.disk bay.old).seen 16) ((B.disk bay.new).seen 16) }
+    ensures written { 0 < length zone.now → Tells (B.disk bay.old) 16 → OnOk result (Written tip zone.now ((B.disk bay.old).seen 16) ((B.disk bay.new).seen 16)) }
+    ensures torn { 0 < length zone.now → Tells (B.disk bay.old) 16 → Torn tip (length zone.now) ((B.disk bay.old).seen 16) ((B.disk bay.new).seen 16) }
     ensures told { (B.disk bay.new).told ≡ (B.disk bay.old).told }
     ensures cause { HasCause (B.count bay.old) (B.count bay.new) result }
 {
@@ -290,9 +339,9 @@ fn recall<B: Bay>(
 ) -> Result<(Bytes, Bytes), RecallError>
     requires { place + len ≤ 1024 }
     ensures ok { IfOk result (λ both. (length both.0 ≡ len) × (both.1 ≡ both.0)) }
-    ensures bytes { IsTrue (B.disk bay.old).told → IfOk result (λ both. both.0 ≡ part ((B.disk bay.old).seen 16) place len) }
+    ensures bytes { Tells (B.disk bay.old) 16 → IfOk result (λ both. both.0 ≡ part ((B.disk bay.old).seen 16) place len) }
     ensures failed { result ≡ Err RecallError.Failed → (0 < len) × Rose (B.count bay.old) (B.count bay.new) }
-    ensures kept { B.count bay.old ≤ B.count bay.new }
+    ensures count { result ≢ Err RecallError.Failed → B.count bay.new ≡ B.count bay.old }
     ensures same { (B.disk bay.new).seen 16 ≡ (B.disk bay.old).seen 16 }
     ensures told { (B.disk bay.new).told ≡ (B.disk bay.old).told }
 {

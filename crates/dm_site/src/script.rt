@@ -26,7 +26,7 @@ pub fn run_script<S: Source, F: Source, K: Sink, C: Clock, B: Bay>(
     bay: &mut B,
 ) -> u8
     // What was heard in the bytes taken was answered by the rules, each read with the plain namespace's bytes.
-    ensures script { IsScript (B.disk bay.old).told (S.left source.old) (S.left source.new) (K.taken sink.old) (K.taken sink.new)
+    ensures script { IsScript ((B.disk bay.old).told 16) (S.left source.old) (S.left source.new) (K.taken sink.old) (K.taken sink.new)
         (B.count bay.old) (B.count bay.new) ((B.disk bay.new).seen 16) result }
 
     // When each status comes that the script doesn't tie to the input.

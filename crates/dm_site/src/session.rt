@@ -43,15 +43,15 @@ fn answer_next<K: Sink, B: Bay>(
     requires some { 0 < length rest.now }
     ensures fits { IfOk result (λ n. n ≤ length rest.now) }
     ensures goes { IfOk result (λ n. 0 < n) }
-    ensures talked { IfOk result (λ n. Talk (B.disk bay.old).told (standing_of archive.old (B.disk bay.old) (K.taken sink.old) (B.count bay.old))
+    ensures talked { IfOk result (λ n. Talk ((B.disk bay.old).told 16) (standing_of archive.old (B.disk bay.old) (K.taken sink.old) (B.count bay.old))
         (standing_of archive.new (B.disk bay.new) (K.taken sink.new) (B.count bay.new)) (reader.old.begun ++ take n rest.now) reader.new.begun []) }
-    ensures stopped { IfErr result (Stopped (B.disk bay.old).told (standing_of archive.old (B.disk bay.old) (K.taken sink.old) (B.count bay.old))
+    ensures stopped { IfErr result (Stopped ((B.disk bay.old).told 16) (standing_of archive.old (B.disk bay.old) (K.taken sink.old) (B.count bay.old))
         (standing_of archive.new (B.disk bay.new) (K.taken sink.new) (B.count bay.new)) (reader.old.begun ++ rest.now)) }
     ensures begun { OnOk result (MayBegin reader.new.begun) }
     ensures idle { OnOk result (reader.new.ready ≡ None) }
     ensures told { (B.disk bay.new).told ≡ (B.disk bay.old).told }
     ensures cause { result ≡ Err Stop.ReplyCut → Rose (K.count sink.old) (K.count sink.new) ⊎ K.ends sink.old }
-    ensures kept { K.count sink.old ≤ K.count sink.new }
+    ensures count { OnOk result (K.count sink.new ≡ K.count sink.old) }
     ensures ends { K.ends sink.new → K.ends sink.old }
 {
     let n = match reader.feed(alloc, rest) {
@@ -80,15 +80,15 @@ fn answer_piece<K: Sink, B: Bay>(
 ) -> Result<(), Stop>
     requires ready { reader.old.ready ≡ None }
     requires begun { MayBegin reader.old.begun }
-    ensures talked { OnOk result (Talk (B.disk bay.old).told (standing_of archive.old (B.disk bay.old) (K.taken sink.old) (B.count bay.old))
+    ensures talked { OnOk result (Talk ((B.disk bay.old).told 16) (standing_of archive.old (B.disk bay.old) (K.taken sink.old) (B.count bay.old))
         (standing_of archive.new (B.disk bay.new) (K.taken sink.new) (B.count bay.new)) (reader.old.begun ++ piece.now) reader.new.begun []) }
-    ensures stopped { IfErr result (Stopped (B.disk bay.old).told (standing_of archive.old (B.disk bay.old) (K.taken sink.old) (B.count bay.old))
+    ensures stopped { IfErr result (Stopped ((B.disk bay.old).told 16) (standing_of archive.old (B.disk bay.old) (K.taken sink.old) (B.count bay.old))
         (standing_of archive.new (B.disk bay.new) (K.taken sink.new) (B.count bay.new)) (reader.old.begun ++ piece.now)) }
     ensures begun { OnOk result (MayBegin reader.new.begun) }
     ensures idle { OnOk result (reader.new.ready ≡ None) }
     ensures told { (B.disk bay.new).told ≡ (B.disk bay.old).told }
     ensures cause { result ≡ Err Stop.ReplyCut → Rose (K.count sink.old) (K.count sink.new) ⊎ K.ends sink.old }
-    ensures kept { K.count sink.old ≤ K.count sink.new }
+    ensures count { OnOk result (K.count sink.new ≡ K.count sink.old) }
     ensures ends { K.ends sink.new → K.ends sink.old }
 {
     let mut taken = 0;
@@ -122,7 +122,7 @@ pub(crate) fn converse<S: Source, K: Sink, B: Bay>(
     bay: &mut B,
 ) -> Status
     requires { state_of archive.old ≡ beginning }
-    ensures script { IsScript (B.disk bay.old).told (S.left source.old) (S.left source.new) (K.taken sink.old) (K.taken sink.new)
+    ensures script { IsScript ((B.disk bay.old).told 16) (S.left source.old) (S.left source.new) (K.taken sink.old) (K.taken sink.new)
         (B.count bay.old) (B.count bay.new) ((B.disk bay.new).seen 16) (number_of result) }
     ensures told { (B.disk bay.new).told ≡ (B.disk bay.old).told }
     ensures source_fault { result ≡ Status.SourceFailed → Rose (S.count source.old) (S.count source.new) }

@@ -1,10 +1,11 @@
 //! Whole runs over memory: what no clause says is that memory and devices that don't fail lead to the
 //! replies that a user expects.
 
-use super::archive::{Archive, LAST_NUMBER};
+use super::archive::Archive;
 use super::run_script;
-use dm_base::{Bytes, Path, Reply};
+use dm_base::{Bytes, Command, NUMBER_LIMIT, Path, Reply};
 use dm_host::{MemBay, MemClock, MemSink, MemSource};
+use dm_proto::Heard;
 use std::alloc::{AllocError, Global};
 use std::test::Fail;
 
@@ -138,11 +139,11 @@ fn a_file_is_written_stored_and_read(rt: HostRuntime) -> Result<(), Fail> {
 // The replies to sessions that meet no fault, by the rules.
 #[test]
 fn sessions_are_answered_by_the_rules(rt: HostRuntime) -> Result<(), Fail> {
-    let cases: [(&[u8], &[u8], u8); 7] = [
+    let cases: [(&[u8], &[u8], u8); 8] = [
         (b"", b"", 0),
         (b"write /a 5\nhel", b"", 8),
         (
-            b"put -r /z\nread /z\nfrob\n\nwrite /a 281\n",
+            b"put -r /z\nread /z\nfrob\n\nwrite a 1\n",
             b"err nofile\nerr nofile\nerr syntax\nerr syntax\n",
             0,
         ),
@@ -159,6 +160,12 @@ fn sessions_are_answered_by_the_rules(rt: HostRuntime) -> Result<(), Fail> {
         (
             b"write /e 0\nput -r /e\nread /e\n",
             b"ok 1\nok 00000000000000010000000000000001\nok 0\n\n",
+            0,
+        ),
+        // A command that isn't done yet takes what it brings, and no line of it is read.
+        (
+            b"write /a 1\nhpatch /a 0 8\nread /a\nls\nread /a\n",
+            b"ok 1\nerr syntax\nerr syntax\nok 1\nh\n",
             0,
         ),
         (b"read /a", b"", 8),
@@ -189,6 +196,37 @@ fn the_volume_holds_280_bytes(rt: HostRuntime) -> Result<(), Fail> {
     assert_eq!(rt; played.status, 0);
     let image = played.bay.bytes(16);
     assert_eq!(rt; image.len(), 424);
+    Ok(())
+}
+
+// A file may be longer than the volume; it is then kept and not stored.
+#[test]
+fn a_file_of_281_bytes_is_not_stored(rt: HostRuntime) -> Result<(), Fail> {
+    let alloc = rt.alloc();
+    let mut input = Vec::from_slice(alloc, b"write /a 281\n")?;
+    let content = vec![in alloc; b'x'; 281]?;
+    input.extend_from_slice(content.as_slice())?;
+    input.extend_from_slice(b"put -r /a\n")?;
+    let played = play(alloc, &undisturbed(input.as_slice()))?;
+    assert_eq!(rt;
+        played.said.as_slice(),
+        b"ok 1\nerr room 280 281\n".as_slice()
+    );
+    assert_eq!(rt; played.status, 0);
+    Ok(())
+}
+
+#[test]
+fn a_write_of_too_many_bytes_is_refused(rt: HostRuntime) -> Result<(), Fail> {
+    let alloc = rt.alloc();
+    let mut archive = Archive::numbered(alloc, 0, 1);
+    let mut bay = MemBay::empty(alloc);
+    let long = Command::LongWrite {
+        path: path(alloc, b"/a")?,
+        len: 16_777_217,
+    };
+    let reply = archive.answer(alloc, &mut bay, Heard::Command(long));
+    assert!(rt; matches!(reply, Reply::Limit { limit: 16_777_216 }));
     Ok(())
 }
 
@@ -267,7 +305,7 @@ fn a_device_that_fails_once_is_answered(rt: HostRuntime) -> Result<(), Fail> {
 #[test]
 fn numbers_are_used_up(rt: HostRuntime) -> Result<(), Fail> {
     let alloc = rt.alloc();
-    let mut archive = Archive::numbered(alloc, LAST_NUMBER - 2, LAST_NUMBER);
+    let mut archive = Archive::numbered(alloc, NUMBER_LIMIT - 2, NUMBER_LIMIT);
     let mut bay = MemBay::empty(alloc);
     for (text, limited) in [(b"/a", false), (b"/b", false), (b"/c", true)] {
         let bytes = Bytes::from_vec(Vec::from_slice(alloc, b"h")?);
@@ -286,5 +324,10 @@ fn path(alloc: Global, text: &[u8]) -> Result<Path, AllocError> {
 }
 
 fn is_limit(reply: &Reply) -> bool {
-    matches!(reply, Reply::Limit { limit: LAST_NUMBER })
+    matches!(
+        reply,
+        Reply::Limit {
+            limit: NUMBER_LIMIT
+        }
+    )
 }

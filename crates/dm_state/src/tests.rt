@@ -141,6 +141,7 @@ fn applies_steps_of_a_group(rt: HostRuntime) -> Result<(), Fail> {
         vsn,
         zone: 64,
         place: 144,
+        sum: None,
     };
     let next = GroupRecord {
         time: Secs(8),

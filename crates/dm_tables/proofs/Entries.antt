@@ -89,7 +89,7 @@ module _ {K X Y : Type 0} {R : K → K → Ordering} (o : KeyOrder R) where
   changed_below k f [] h = tt
   changed_below k f (e ∷ es) h = both _ _ (first _ _ h) (changed_below k f es (second _ _ h))
 
-  changed_sorted : (f : K → X → Y) (es : List (K × X)) → T (is_sorted R es) → T (is_sorted R (changed f es))
+  pub changed_sorted : (f : K → X → Y) (es : List (K × X)) → T (is_sorted R es) → T (is_sorted R (changed f es))
   changed_sorted f [] h = tt
   changed_sorted f (e ∷ es) h = both _ _ (changed_below e.0 f es (first _ _ h)) (changed_sorted f es (second _ _ h))
 

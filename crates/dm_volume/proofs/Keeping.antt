@@ -1,7 +1,7 @@
 -- What a file keeps while it, or another one, is worked on.
-use Rattle.std.proofs.Common.{◌≡◌, ℕ, IsTrue, List, length, Result, OnOk, OnErr, sym, subst}
+use Rattle.std.proofs.Common.{◌≡◌, ℕ, List, length, Result, OnOk, OnErr, sym, subst}
 use Rattle.dm_host.specs.declared.Failed.{Failed}
-use Rattle.dm_host.specs.Disk.{Disk, Image, MayLeave, Settled, Same}
+use Rattle.dm_host.specs.Disk.{Disk, Image, MayLeave, Settled, Same, Tells}
 use Rattle.dm_host.specs.Works.{Works, File, Follows}
 use Rattle.dm_host.proofs.Moments.{settled_still, fewer_after, each_moment}
 use Rattle.dm_rules.specs.Known.{Known, written, forgotten, Holds}
@@ -9,7 +9,7 @@ use Rattle.dm_rules.proofs.Knowledge.{holds-forgotten_same}
 use Rattle.dm_volume.specs.Volume.{Replaces, Keeps}
 use Rattle.dm_volume.proofs.Replacing.{so_err, both_ok}
 
-module _ {T : Type 0} (file place : ℕ) (bytes : List ℕ) (old new : Disk) (result : Result T Failed) (w : Replaces file place bytes old new result) (told : IsTrue old.told)
+module _ {T : Type 0} (file place : ℕ) (bytes : List ℕ) (old new : Disk) (result : Result T Failed) (w : Replaces file place bytes old new result) (told : Tells old file)
     (known : Known) (k : Keeps old file known) where
   -- the bytes of a write that was done are kept
   pub keeps_done : OnOk result (Keeps new file (written place bytes known))

@@ -2,7 +2,7 @@
 use Rattle.std.proofs.Common.{◌≡◌, ⊎_elim, ℕ, ◌+◌, ◌<◌, IsTrue, List, length, drop, slice_index, Result, Ok, Err, OnOk, OnErr, sym, ◌∙◌, ap, subst, arith}
 use Rattle.std.proofs.lemmas.List.{get_or-take, get_or-drop}
 use Rattle.dm_host.specs.declared.Failed.{Failed}
-use Rattle.dm_host.specs.Disk.{Disk, Only, Torn, Written, part}
+use Rattle.dm_host.specs.Disk.{Disk, Only, Tells, Torn, Written, part}
 use Rattle.dm_host.specs.Works.{Works, File, Follows}
 use Rattle.dm_host.proofs.Moments.{weaker}
 use Rattle.dm_host.proofs.Outside.{torn_below, torn_above, part-at}
@@ -52,8 +52,8 @@ written-holds place bytes known old new done =
 
 module _ {T : Type 0} (file place : ℕ) (bytes : List ℕ) (old new : Disk) (result : Result T Failed) where
   -- a write and a sync replace a range
-  pub replaces : (IsTrue old.told → OnOk result (Written place bytes (old.seen file) (new.seen file)))
-      → (IsTrue old.told → Torn place (length bytes) (old.seen file) (new.seen file)) → OnOk result (Only (new.seen file) (new.may_leave file))
+  pub replaces : (Tells old file → OnOk result (Written place bytes (old.seen file) (new.seen file)))
+      → (Tells old file → Torn place (length bytes) (old.seen file) (new.seen file)) → (Tells old file → OnOk result (Only (new.seen file) (new.may_leave file)))
       → Works (File file) old new (Follows (Torn place (length bytes)) file old) → Replaces file place bytes old new result
   replaces stands torn durable works = record {
     stands = stands;
@@ -61,7 +61,7 @@ module _ {T : Type 0} (file place : ℕ) (bytes : List ℕ) (old new : Disk) (re
     done = λ told known holds. so_ok result (stands told) (λ is. written-holds place bytes known (old.seen file) (new.seen file) is holds);
     failed = λ told known holds. always_err result (torn-holds place (length bytes) known (old.seen file) (new.seen file) (torn told) holds);
     durable = durable;
-    kept = λ told known holds. both_ok result (stands told) durable (λ is only c left.
+    kept = λ told known holds. both_ok result (stands told) (durable told) (λ is only c left.
         subst (λ (l : List ℕ). Holds (written place bytes known) l) (sym (only c left)) (written-holds place bytes known (old.seen file) (new.seen file) is holds));
     any_moment = λ known settled. weaker (File file) old new (Follows (Torn place (length bytes)) file old) (λ x. Holds (forgotten place (length bytes) known) (x file)) works
         (λ x follows. torn-holds place (length bytes) known follows.0 (x file) follows.2 (settled follows.0 follows.1));

@@ -3,10 +3,10 @@ use Rattle.std.specs.Prelude.{◌≡◌, ◌⊎◌, ℕ, ◌+◌, ◌≤◌, Lis
 use Rattle.dm_base.specs.declared.serial.Vsn.{Vsn}
 use Rattle.dm_base.specs.declared.identifier.GroupId.{GroupId}
 use Rattle.dm_host.specs.declared.Failed.{Failed}
-use Rattle.dm_host.specs.Disk.{Disk, Only, Settled, Torn, Written}
+use Rattle.dm_host.specs.Disk.{Disk, Only, Same, Settled, Tells, Torn, Written, part}
 use Rattle.dm_host.specs.Works.{Works, File, Follows}
-use Rattle.dm_rules.specs.Known.{Known, written, forgotten, Holds}
-use Rattle.dm_rules.specs.Label.{first_zone}
+use Rattle.dm_rules.specs.Known.{Known, agrees, written, forgotten, Holds}
+use Rattle.dm_rules.specs.Label.{first_zone, label}
 
 -- a volume: its serial number, its group, the file that is its image, and the size that its label gives
 pub record Descriptor : Type 0 where
@@ -14,6 +14,10 @@ pub record Descriptor : Type 0 where
   pub group : GroupId
   pub file : ℕ
   pub size : ℕ
+
+-- the label of a volume under an epoch, which gives its version
+abbrev pub label_in : Descriptor → ℕ → ℕ → List ℕ
+label_in v version epoch = label v.vsn.0 v.group.0 version epoch v.size
 
 -- a range that zones may take
 abbrev pub IsInZones : ℕ → ℕ → ℕ → Type 0
@@ -23,20 +27,21 @@ IsInZones size place n = (first_zone ≤ place) × (place + n ≤ size)
 abbrev pub IsReadable : ℕ → ℕ → ℕ → Type 0
 IsReadable size place n = IsInZones size place n ⊎ ((place ≡ 0) × (n ≡ first_zone))
 
--- What a write of these bytes at a place of a file makes of a disk. Other files stay, by `works`.
+-- What a write of these bytes at a place of a file makes of a disk. Other files stay, by `works`. What is said of content
+-- is said where the device tells of this very file.
 pub record Replaces {T : Type 0} (file place : ℕ) (bytes : List ℕ) (old new : Disk) (result : Result T Failed) : Type 0 where
   -- done, the bytes stand there and every other byte stays
-  pub stands : IsTrue old.told → OnOk result (Written place bytes (old.seen file) (new.seen file))
+  pub stands : Tells old file → OnOk result (Written place bytes (old.seen file) (new.seen file))
   -- failed, any bytes may stand there, and every other byte stays
-  pub torn : IsTrue old.told → Torn place (length bytes) (old.seen file) (new.seen file)
+  pub torn : Tells old file → Torn place (length bytes) (old.seen file) (new.seen file)
   -- done, the bytes are known
-  pub done : IsTrue old.told → (known : Known) → Holds known (old.seen file) → OnOk result (Holds (written place bytes known) (new.seen file))
+  pub done : Tells old file → (known : Known) → Holds known (old.seen file) → OnOk result (Holds (written place bytes known) (new.seen file))
   -- failed, nothing is known of the range
-  pub failed : IsTrue old.told → (known : Known) → Holds known (old.seen file) → OnErr result (Holds (forgotten place (length bytes) known) (new.seen file))
+  pub failed : Tells old file → (known : Known) → Holds known (old.seen file) → OnErr result (Holds (forgotten place (length bytes) known) (new.seen file))
   -- done, a crash leaves what is read
-  pub durable : OnOk result (Only (new.seen file) (new.may_leave file))
+  pub durable : Tells old file → OnOk result (Only (new.seen file) (new.may_leave file))
   -- done, the bytes are known of each content that a crash leaves
-  pub kept : IsTrue old.told → (known : Known) → Holds known (old.seen file) → OnOk result (Settled new file (Holds (written place bytes known)))
+  pub kept : Tells old file → (known : Known) → Holds known (old.seen file) → OnOk result (Settled new file (Holds (written place bytes known)))
   -- a crash at any moment since may leave any bytes in the range, and what was known elsewhere
   pub any_moment : (known : Known) → Settled old file (Holds known) → Works (File file) old new (λ x. Holds (forgotten place (length bytes) known) (x file))
   pub works : Works (File file) old new (Follows (Torn place (length bytes)) file old)
@@ -45,3 +50,13 @@ pub record Replaces {T : Type 0} (file place : ℕ) (bytes : List ℕ) (old new 
 pub record Keeps (d : Disk) (file : ℕ) (known : Known) : Type 0 where
   pub seen : Holds known (d.seen file)
   pub left : Settled d file (Holds known)
+
+-- What a read of n bytes at a place of a file gives, and makes of a disk.
+pub record Reads {T : Type 0} (file place n : ℕ) (given : List ℕ) (old new : Disk) (result : Result T Failed) : Type 0 where
+  -- done, it gave what stands there, and zeros past the end
+  pub bytes : Tells old file → OnOk result (given ≡ part (old.seen file) place n)
+  -- so bytes that agree with all that is known
+  pub agrees : Tells old file → (known : Known) → Holds known (old.seen file) → OnOk result (IsTrue (agrees known place given))
+  -- it changed no content, also where it failed
+  pub same : new.seen file ≡ old.seen file
+  pub works : Works (File file) old new (Follows Same file old)

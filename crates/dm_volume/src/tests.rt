@@ -1,6 +1,7 @@
 //! What no clause says: that calls succeed while nothing fails, and what a call that fails leaves. And a caller that is
 //! generic in its bay.
 ghost use Rattle.std.specs.Prelude.{◌≡◌, IsTrue, OnOk, length};
+ghost use Rattle.dm_host.specs.Disk.{Tells};
 ghost use Rattle.dm_rules.specs.Known.{Known, forgotten, agrees, Holds};
 ghost use Rattle.dm_volume.specs.Volume.{IsInZones, IsReadable};
 
@@ -27,7 +28,7 @@ fn write_and_read<B: Bay>(
     requires mount { MOUNT.vsn ≡ volume.old.vsn }
     requires zone { IsInZones volume.old.size place (length zone.now) }
     requires range { IsReadable volume.old.size start (length into.old) }
-    ensures { IsTrue (B.disk bay.old).told → (known : Known) → Holds known ((B.disk bay.old).seen volume.old.file)
+    ensures { Tells (B.disk bay.old) volume.old.file → (known : Known) → Holds known ((B.disk bay.old).seen volume.old.file)
         → OnOk result (IsTrue (agrees (forgotten place (length zone.now) known) start into.new)) }
 {
     let _ = volume.write_zone(bay, &MOUNT, place, zone);
@@ -66,8 +67,8 @@ fn a_write_that_fails_spoils_its_range_alone(rt: HostRuntime) -> Result<(), Fail
     assert_eq!(rt; bay.faults(), 1);
     let mut bytes = [9; 11];
     volume.read_chunk(&mut bay, &MOUNT, 64, &mut bytes)?;
-    assert_eq!(rt; &bytes[..2], b"fi".as_slice());
-    assert_eq!(rt; &bytes[6..], b"econd".as_slice());
+    // Half of the zone was written.
+    assert_eq!(rt; bytes, *b"fizotsecond");
     // The seventh call writes the zone, and the eighth, which fails, is its sync.
     assert_eq!(rt;
         volume.write_zone(&mut bay, &MOUNT, 66, b"zone"),
@@ -105,10 +106,37 @@ fn a_label_is_written(rt: HostRuntime) -> Result<(), Fail> {
     let mut bay = MemBay::empty(rt.alloc());
     let mut volume = Volume::of(Vsn(*b"AA0001"), GroupId(1), 16, 424);
     volume.write_zone(&mut bay, &MOUNT, 64, b"zone")?;
-    volume.relabel(&mut bay, &MOUNT, 1)?;
+    volume.relabel(&mut bay, &MOUNT, 1, 1)?;
     let mut bytes = [9; 64];
     volume.read_chunk(&mut bay, &MOUNT, 0, &mut bytes)?;
     assert_eq!(rt; bytes, label);
+    label[15] = 2;
+    label[23] = 7;
+    volume.relabel(&mut bay, &MOUNT, 7, 2)?;
+    volume.read_chunk(&mut bay, &MOUNT, 0, &mut bytes)?;
+    assert_eq!(rt; bytes, label);
     assert_eq!(rt; &bay.bytes(16)[64..], b"zone".as_slice());
+    Ok(())
+}
+
+// Of a file that rots nothing is promised but its faults: a read gives what stands there. The other file keeps what was
+// written.
+#[test]
+fn one_file_rots_and_another_does_not(rt: HostRuntime) -> Result<(), Fail> {
+    let alloc = rt.alloc();
+    let mut bay = MemBay::empty(alloc);
+    bay.rot = [(6, 16, 66, 0)].to_vec(alloc)?;
+    let mut volume = Volume::of(Vsn(*b"AA0001"), GroupId(1), 16, 424);
+    let mut beside = Volume::of(Vsn(*b"AA0001"), GroupId(1), 17, 424);
+    volume.write_zone(&mut bay, &MOUNT, 64, b"first")?;
+    beside.write_zone(&mut bay, &MOUNT, 64, b"first")?;
+    let mut bytes = [9; 5];
+    volume.read_chunk(&mut bay, &MOUNT, 64, &mut bytes)?;
+    assert_eq!(rt; bytes, *b"first");
+    volume.read_chunk(&mut bay, &MOUNT, 64, &mut bytes)?;
+    assert_eq!(rt; bytes, *b"fi\0st");
+    beside.read_chunk(&mut bay, &MOUNT, 64, &mut bytes)?;
+    assert_eq!(rt; bytes, *b"first");
+    assert_eq!(rt; bay.faults(), 0);
     Ok(())
 }

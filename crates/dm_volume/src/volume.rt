@@ -1,11 +1,14 @@
 //! A volume: what of its image is known after each call.
-ghost use Rattle.std.specs.Prelude.{◌≡◌, ◌+◌, ◌<◌, ◌≤◌, ◌^◌, length, IsTrue, OnOk};
+//!
+//! A call is one write with its sync, or one read, of the one file that is the image. What it promises of content it
+//! promises where the device tells of that file, whatever it tells of others: an image that may rot is read and written
+//! by the same calls, and then only its faults are known. Which ranges of an image have a meaning, and whether a mount is
+//! still open, is for the library server to say.
+ghost use Rattle.std.specs.Prelude.{◌≡◌, ◌<◌, ◌≤◌, length};
 ghost use Rattle.dm_host.specs.Count.{HasCause};
-ghost use Rattle.dm_host.specs.Disk.{part, Same};
-ghost use Rattle.dm_host.specs.Works.{Works, File, Follows};
-ghost use Rattle.dm_rules.specs.Known.{Known, agrees, Holds};
-ghost use Rattle.dm_rules.specs.Label.{first_zone, label};
-ghost use Rattle.dm_volume.specs.Volume.{Replaces, IsInZones, IsReadable};
+ghost use Rattle.dm_rules.specs.Label.{first_zone};
+ghost use Rattle.dm_rules.specs.Version.{IsVersion};
+ghost use Rattle.dm_volume.specs.Volume.{IsInZones, IsReadable, Reads, Replaces, label_in};
 
 use crate::image::{fetch, replace};
 use dm_base::{GroupId, Mount, Vsn};
@@ -73,7 +76,8 @@ impl Volume {
     ) -> Result<(), Failed>
         requires mount { mount.now.vsn ≡ self.old.vsn }
         requires range { IsInZones self.old.size place (length zone.now) }
-        ensures replaces { Replaces self.old.file place zone.now (B.disk bay.old) (B.disk bay.new) result }
+        ensures replaces { Replaces self.old.file place zone.now
+            (B.disk bay.old) (B.disk bay.new) result }
         ensures volume { self.new ≡ self.old }
         ensures cause { HasCause (B.count bay.old) (B.count bay.new) result }
     {
@@ -91,10 +95,8 @@ impl Volume {
     ) -> Result<(), Failed>
         requires mount { mount.now.vsn ≡ self.old.vsn }
         requires range { IsReadable self.old.size place (length into.old) }
-        ensures bytes { IsTrue (B.disk bay.old).told → OnOk result (into.new ≡ part ((B.disk bay.old).seen self.old.file) place (length into.old)) }
-        ensures agrees { IsTrue (B.disk bay.old).told → (known : Known) → Holds known ((B.disk bay.old).seen self.old.file) → OnOk result (IsTrue (agrees known place into.new)) }
-        ensures same { (B.disk bay.new).seen self.old.file ≡ (B.disk bay.old).seen self.old.file }
-        ensures works { Works (File self.old.file) (B.disk bay.old) (B.disk bay.new) (Follows Same self.old.file (B.disk bay.old)) }
+        ensures reads { Reads self.old.file place (length into.old) into.new
+            (B.disk bay.old) (B.disk bay.new) result }
         ensures length { length into.new ≡ length into.old }
         ensures volume { self.new ≡ self.old }
         ensures cause { HasCause (B.count bay.old) (B.count bay.new) result }
@@ -102,16 +104,24 @@ impl Volume {
         fetch(bay, self.file, place, into)
     }
 
-    /// Writes the label of this epoch, the first 64 bytes of the image, and syncs it. After an error these 64 may
-    /// hold any bytes.
-    pub fn relabel<B: Bay>(&mut self, bay: &mut B, mount: &Mount, epoch: u64) -> Result<(), Failed>
-        requires { mount.now.vsn ≡ self.old.vsn }
-        ensures replaces { Replaces self.old.file 0 (label self.old.vsn.0 self.old.group.0 epoch self.old.size) (B.disk bay.old) (B.disk bay.new) result }
-        ensures length { length (label self.old.vsn.0 self.old.group.0 epoch self.old.size) ≡ first_zone }
+    /// Writes the label of this epoch and version, the first 64 bytes of the image, and syncs it. After an error these
+    /// 64 may hold any bytes.
+    pub fn relabel<B: Bay>(
+        &mut self,
+        bay: &mut B,
+        mount: &Mount,
+        epoch: u64,
+        version: u8,
+    ) -> Result<(), Failed>
+        requires mount { mount.now.vsn ≡ self.old.vsn }
+        requires version { IsVersion version }
+        ensures replaces { Replaces self.old.file 0 (label_in self.old version epoch)
+            (B.disk bay.old) (B.disk bay.new) result }
+        ensures length { length (label_in self.old version epoch) ≡ first_zone }
         ensures volume { self.new ≡ self.old }
         ensures cause { HasCause (B.count bay.old) (B.count bay.new) result }
     {
-        let bytes = dm_zone::label(&self.vsn.0, self.group, epoch, self.size);
+        let bytes = dm_zone::label(&self.vsn.0, self.group, version, epoch, self.size);
         replace(bay, self.file, 0, &bytes)
     }
 }

@@ -4,6 +4,7 @@ use Rattle.std.specs.Prelude.{not}
 use Rattle.std.specs.Int.{w32, w64}
 use Rattle.std.specs.List.{flat_map, AllByRecursion}
 use Rattle.std.proofs.lemmas.Bool.{cases_eq, cases_lt}
+use Rattle.dm_rules.specs.Version.{chunk_header}
 use Rattle.dm_rules.specs.Zone.{Chunk, chunk_text, zone}
 use Rattle.dm_zone.specs.Fields.{Field, number_at, chunk_fields, zone_fields, AllRight, FirstWrong}
 use Rattle.dm_zone.specs.Grammar.{IsChunk, IsZone}
@@ -30,78 +31,78 @@ known (f ∷ fs) bytes =
     ]
 
 -- n chunks stand there, or the next is wrong before
-pub record Stand (text : List ℕ) (n : ℕ) : Type 0 where
+pub record Stand (version : ℕ) (text : List ℕ) (n : ℕ) : Type 0 where
   pub chunks : List Chunk
   pub rest : List ℕ
   pub spelled : text ≡ flat_map chunk_text chunks ++ rest
-  pub each : AllByRecursion IsChunk chunks
+  pub each : AllByRecursion (IsChunk version) chunks
   pub count : length chunks ≡ n
 
-stand_more : (text : List ℕ) (n : ℕ) → IsBytes text → AllRight chunk_fields text → Stand (drop (48 + number_at w64 32 text) text) n → Stand text (suc n)
-stand_more text n fits right s =
-    let p = chunk_parts text fits right in
+stand_more : (version : ℕ) (text : List ℕ) (n : ℕ) → IsBytes text → AllRight (chunk_fields version) text → Stand version (drop (chunk_header version + number_at w64 32 text) text) n → Stand version text (suc n)
+stand_more version text n fits right s =
+    let p = chunk_parts version text fits right in
     record {
-      chunks = chunk_at text ∷ s.chunks;
+      chunks = chunk_at version text ∷ s.chunks;
       rest = s.rest;
-      spelled = p.parts ∙ ap (λ t. chunk_text (chunk_at text) ++ t) s.spelled ∙ sym (append_assoc (chunk_text (chunk_at text)) (flat_map chunk_text s.chunks) s.rest);
+      spelled = p.parts ∙ ap (λ t. chunk_text (chunk_at version text) ++ t) s.spelled ∙ sym (append_assoc (chunk_text (chunk_at version text)) (flat_map chunk_text s.chunks) s.rest);
       each = (p.is_chunk, s.each);
       count = ap suc s.count;
     }
 
-stops_more : (text : List ℕ) (n place : ℕ) → IsBytes text → AllRight chunk_fields text → Stops (drop (48 + number_at w64 32 text) text) n place → (later : ℕ) × Stops text (suc n) later
-stops_more text n place fits right s =
-    let p = chunk_parts text fits right in (
-      32 + length (flat_map chunk_text (chunk_at text ∷ s.chunks)) + s.wrong.at,
+stops_more : (version : ℕ) (text : List ℕ) (n place : ℕ) → IsBytes text → AllRight (chunk_fields version) text → Stops version (drop (chunk_header version + number_at w64 32 text) text) n place → (later : ℕ) × Stops version text (suc n) later
+stops_more version text n place fits right s =
+    let p = chunk_parts version text fits right in (
+      32 + length (flat_map chunk_text (chunk_at version text ∷ s.chunks)) + s.wrong.at,
       record {
-        chunks = chunk_at text ∷ s.chunks;
+        chunks = chunk_at version text ∷ s.chunks;
         rest = s.rest;
-        spelled = p.parts ∙ ap (λ t. chunk_text (chunk_at text) ++ t) s.spelled ∙ sym (append_assoc (chunk_text (chunk_at text)) (flat_map chunk_text s.chunks) s.rest);
+        spelled = p.parts ∙ ap (λ t. chunk_text (chunk_at version text) ++ t) s.spelled ∙ sym (append_assoc (chunk_text (chunk_at version text)) (flat_map chunk_text s.chunks) s.rest);
         each = (p.is_chunk, s.each);
         wrong = record { fewer = omega (arith, s.wrong.fewer); at = s.wrong.at; wrong = s.wrong.wrong; place_is = refl };
       },
     )
 
-stands : (n : ℕ) (text : List ℕ) → IsBytes text → Stand text n ⊎ ((place : ℕ) × Stops text n place)
-stands zero text fits = inl (record { chunks = []; rest = text; spelled = refl; each = tt; count = refl })
-stands (suc n) text fits =
-    elim (known chunk_fields text) [
+stands : (version : ℕ) (n : ℕ) (text : List ℕ) → IsBytes text → Stand version text n ⊎ ((place : ℕ) × Stops version text n place)
+stands version zero text fits = inl (record { chunks = []; rest = text; spelled = refl; each = tt; count = refl })
+stands version (suc n) text fits =
+    elim (known (chunk_fields version) text) [
       | inr w ↦ inr (
         32 + 0 + w.0,
         record { chunks = []; rest = text; spelled = refl; each = tt; wrong = record { fewer = omega arith; at = w.0; wrong = w.1; place_is = refl } },
       )
       | inl right ↦
-          elim (stands n (drop (48 + number_at w64 32 text) text) (IsBytes-drop (48 + number_at w64 32 text) text fits)) [
-            | inl s ↦ inl (stand_more text n fits right s)
-            | inr s ↦ inr (stops_more text n s.0 fits right s.1)
+          elim (stands version n (drop (chunk_header version + number_at w64 32 text) text) (IsBytes-drop (chunk_header version + number_at w64 32 text) text fits)) [
+            | inl s ↦ inl (stand_more version text n fits right s)
+            | inr s ↦ inr (stops_more version text n s.0 fits right s.1)
           ]
     ]
 
-abbrev Answer : List ℕ → Type 0
-Answer bytes = ((epoch : ℕ) × (chunks : List Chunk) × IsZone epoch chunks × (bytes ≡ zone epoch chunks)) ⊎ ((place : ℕ) × WrongAt bytes place)
+abbrev Answer : ℕ → List ℕ → Type 0
+Answer version bytes = ((epoch : ℕ) × (chunks : List Chunk) × IsZone version epoch chunks × (bytes ≡ zone epoch chunks)) ⊎ ((place : ℕ) × WrongAt version bytes place)
 
-answer_of : (bytes : List ℕ) (count epoch whole : ℕ) → IsBytes bytes → AllRight zone_fields bytes → IsHeader count epoch whole bytes → Stand (drop 32 bytes) count → Answer bytes
-answer_of bytes count epoch whole fits right h s =
+answer_of : (version : ℕ) (bytes : List ℕ) (count epoch whole : ℕ) → IsBytes bytes → AllRight zone_fields bytes → IsHeader count epoch whole bytes → Stand version (drop 32 bytes) count → Answer version bytes
+answer_of version bytes count epoch whole fits right h s =
     let end : ℕ = 32 + length (flat_map chunk_text s.chunks) in
-    let r : Read (drop 32 bytes) count (entries 32 s.chunks) end s.rest = record { chunks = s.chunks; spelled = s.spelled; each = s.each; count = s.count; told_is = refl; place_is = refl } in
+    let r : Read version (drop 32 bytes) count (entries version 32 s.chunks) end s.rest = record { chunks = s.chunks; spelled = s.spelled; each = s.each; count = s.count; told_is = refl; place_is = refl } in
     elim (cases_eq whole end) [
-      | inr differs ↦ inr (16, wrong_length bytes s.rest count epoch whole end (entries 32 s.chunks) fits right h r differs)
+      | inr differs ↦ inr (16, wrong_length version bytes s.rest count epoch whole end (entries version 32 s.chunks) fits right h r differs)
       | inl same ↦
           elim (cases_lt 0 (length s.rest)) [
-            | inl left ↦ inr (end, left_over bytes s.rest count epoch whole end (entries 32 s.chunks) fits right h r same left)
+            | inl left ↦ inr (end, left_over version bytes s.rest count epoch whole end (entries version 32 s.chunks) fits right h r same left)
             | inr none ↦
-                let z = spells bytes s.rest count epoch whole end (entries 32 s.chunks) fits right h r same (omega arith) in
+                let z = spells version bytes s.rest count epoch whole end (entries version 32 s.chunks) fits right h r same (omega arith) in
                 inl (epoch, z.0, z.1.is_zone, z.1.spelled)
           ]
     ]
 
-pub either : (bytes : List ℕ) → IsBytes bytes → Answer bytes
-either bytes fits =
+pub either : (version : ℕ) (bytes : List ℕ) → IsBytes bytes → Answer version bytes
+either version bytes fits =
     elim (known zone_fields bytes) [
       | inr w ↦ inr (w.0, inl w.1)
       | inl right ↦
           let h : IsHeader (number_at w32 4 bytes) (number_at w64 8 bytes) (number_at w64 16 bytes) bytes = record { count_is = refl; epoch_is = refl; whole_is = refl } in
-          elim (stands (number_at w32 4 bytes) (drop 32 bytes) (IsBytes-drop 32 bytes fits)) [
-            | inl s ↦ answer_of bytes _ _ _ fits right h s
-            | inr s ↦ inr (s.0, wrong_in_chunk bytes _ _ _ s.0 fits right h s.1)
+          elim (stands version (number_at w32 4 bytes) (drop 32 bytes) (IsBytes-drop 32 bytes fits)) [
+            | inl s ↦ answer_of version bytes _ _ _ fits right h s
+            | inr s ↦ inr (s.0, wrong_in_chunk version bytes _ _ _ s.0 fits right h s.1)
           ]
     ]

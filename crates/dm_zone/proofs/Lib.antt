@@ -6,3 +6,4 @@ pub mod Headers
 pub mod Chunks
 pub mod OneWay
 pub mod Either
+pub mod Listing

@@ -24,4 +24,6 @@ pub struct ZoneChunk {
     pub at: u64,
     /// How many bytes there are, one or more.
     pub len: u64,
+    /// The sum of the bytes, on a volume of the second version. It was compared with them.
+    pub sum: Option<[u8; 32]>,
 }

@@ -7,12 +7,14 @@
 
 mod clock;
 mod device;
+mod folder;
 mod stream;
 
 use clock::SystemClock;
 use device::FileBay;
 use dm_host::MemSource;
 use dm_site::run_script;
+use std::io::ErrorKind;
 use std::process::ExitCode;
 use std::{env, io};
 use stream::{StreamSink, StreamSource};
@@ -31,15 +33,12 @@ fn main(rt: HostRuntime) -> ExitCode {
 // Runs the words of the command line over the system's streams, clock and files.
 fn run(rt: &HostRuntime) -> io::Result<u8> {
     let alloc = rt.alloc();
-    let mut words = Vec::new(alloc);
-    for word in env::args(rt)?.skip(1) {
-        words.push(word)?;
-    }
-    let folder = match words.get(1) {
-        Some(folder) => folder.as_str(),
+    let words = words_of(rt)?;
+    let archive = match words.get(1) {
+        Some(archive) => archive.as_str(),
         None => "",
     };
-    let mut bay = FileBay::new(alloc, rt, format!(in alloc; "{folder}/bay")?);
+    let mut bay = FileBay::new(alloc, rt, format!(in alloc; "{archive}/bay")?);
     let mut conf = MemSource {
         bytes: Vec::new(alloc),
         at: 0,
@@ -51,7 +50,7 @@ fn run(rt: &HostRuntime) -> io::Result<u8> {
     let mut source = StreamSource::new(rt.reader());
     let mut sink = StreamSink::new(io::writer(rt));
     let mut clock = SystemClock::new(rt);
-    Ok(run_script(
+    let status = run_script(
         alloc,
         words.as_slice(),
         &mut conf,
@@ -59,5 +58,25 @@ fn run(rt: &HostRuntime) -> io::Result<u8> {
         &mut sink,
         &mut clock,
         &mut bay,
-    ))
+    );
+    if let Some(trouble) = bay.first_trouble() {
+        let _ = eprintln!(rt; "dmfd: {archive}/bay: {trouble}");
+    }
+    Ok(status)
+}
+
+// The words of the command line without the program's name. Words that aren't text are no valid command line, and
+// neither is the empty list that is given for them.
+fn words_of(rt: &HostRuntime) -> io::Result<Vec<String>> {
+    let mut words = Vec::new(rt.alloc());
+    match env::args(rt) {
+        Ok(all) => {
+            for word in all.skip(1) {
+                words.push(word)?;
+            }
+        }
+        Err(error) if error.kind() == ErrorKind::InvalidData => {}
+        Err(error) => return Err(error),
+    }
+    Ok(words)
 }

@@ -1,9 +1,11 @@
 //! The standard streams as the source and the sink of a session.
 
 ghost use Rattle.std.specs.Prelude.{◌≡◌, None};
+ghost use Rattle.std.specs.Io.{ReadsAtMost, WritesAtMost};
 
 use dm_host::{Failed, Sink, Source};
-use std::io::{Read, Write};
+use std::io;
+use std::io::{ErrorKind, Read, Write};
 
 /// A reader, with a count of its errors.
 #[derive(Drop)]
@@ -26,7 +28,7 @@ impl<R: Read + Drop> Source for StreamSource<R> {
     ghost count = { λ s. s.count };
 
     fn read(&mut self, into: &mut [u8]) -> Result<usize, Failed> {
-        match self.stream.read(into) {
+        match read_once(&mut self.stream, into) {
             Ok(n) => Ok(n),
             Err(_) => {
                 self.count = self.count.saturating_add(1);
@@ -63,7 +65,7 @@ impl<W: Write + Drop> Sink for StreamSink<W> {
     ghost ends = { λ _. Unit {0} };
 
     fn write(&mut self, bytes: &[u8]) -> Result<usize, Failed> {
-        match self.stream.write(bytes) {
+        match write_once(&mut self.stream, bytes) {
             Ok(n) => Ok(n),
             Err(_) => {
                 self.count = self.count.saturating_add(1);
@@ -75,4 +77,30 @@ impl<W: Write + Drop> Sink for StreamSink<W> {
     fn faults(&self) -> u64 {
         self.count
     }
+}
+
+// One read, made again where a signal interrupts it.
+fn read_once<R: Read>(stream: &mut R, into: &mut [u8]) -> io::Result<usize>
+    ensures bound { ReadsAtMost result into.new }
+{
+    for _ in 0..u64::MAX {
+        match stream.read(into) {
+            Err(error) if error.kind() == ErrorKind::Interrupted => {}
+            answer => return answer,
+        }
+    }
+    Err(io::Error::from(ErrorKind::Interrupted))
+}
+
+// One write, made again where a signal interrupts it.
+fn write_once<W: Write>(stream: &mut W, bytes: &[u8]) -> io::Result<usize>
+    ensures bound { WritesAtMost result bytes.now }
+{
+    for _ in 0..u64::MAX {
+        match stream.write(bytes) {
+            Err(error) if error.kind() == ErrorKind::Interrupted => {}
+            answer => return answer,
+        }
+    }
+    Err(io::Error::from(ErrorKind::Interrupted))
 }

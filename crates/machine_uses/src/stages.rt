@@ -54,6 +54,7 @@ pub(crate) fn site(alloc: Global) -> Result<Joint, Fail> {
         hold: 50,
         volumes: Listed::from_vec(Vec::from_slice(alloc, &VOLUMES)?),
         size: 424,
+        format: 1,
     };
     let daemon = DaemonConf {
         site: 1,
@@ -115,6 +116,7 @@ pub(crate) fn put_begun(rt: &impl Abort, joint: &mut Joint, alloc: Global) -> Re
 pub(crate) fn room_kept(rt: &impl Abort, joint: &mut Joint, alloc: Global) -> Result<(), Fail> {
     let piece = Piece {
         vsn: VOLUMES[0],
+        version: 1,
         zone: 64,
         offset: 0,
         len: 5,
@@ -186,6 +188,7 @@ pub(crate) fn chunk_mounted(rt: &impl Abort, joint: &mut Joint, alloc: Global) -
         vsn: VOLUMES[0],
         zone: 64,
         place: 144,
+        sum: None,
     };
     let mounted = Told::AtChunk {
         mount: 5,

@@ -27,7 +27,7 @@ fn file(state: FileState, change: u64, bfid: Option<Bfid>) -> Told {
 
 // The bytes of the file in the plain namespace, after it is written.
 fn read_plainly(alloc: Global) -> Result<Option<[u8; 5]>, Fail> {
-    let mut plain = Plain::empty(alloc);
+    let mut plain = Plain::empty(alloc, 100);
     let step = PlainStep::Write {
         path: path(alloc, "/a")?,
         bytes: text(alloc, b"hello")?,

@@ -2,12 +2,13 @@ use Rattle.std.proofs.Common.{◌≤◌, ◌^◌, length, reverse, sym, ap, subs
 use Rattle.std.proofs.lemmas.List.{length-take}
 use Rattle.dm_host.specs.Disk.{Image, Torn}
 use Rattle.dm_host.specs.Past.{contents}
-use Rattle.dm_host.proofs.Kept.{idle, torn_still, unchanged, puts_works, puts_torn}
+use Rattle.dm_host.proofs.Moments.{idle, torn_still}
+use Rattle.dm_host.proofs.Kept.{unchanged, puts_works, puts_torn}
 use Rattle.dm_host.proofs.change.put_front.Goals as goal
 
 pub returns-then-not-ends_within-clause-works : goal.returns-then-not-ends_within-clause-works
 returns-then-not-ends_within-clause-works c =
-    idle (Torn c.args.place (length c.args.bytes.now)) (torn_still c.args.place (length c.args.bytes.now)) c.args.file _
+    λ told. idle (Torn c.args.place (length c.args.bytes.now)) (torn_still c.args.place (length c.args.bytes.now)) c.args.file _
 
 pub returns-in-Ok-clause-torn : goal.returns-in-Ok-clause-torn
 returns-in-Ok-clause-torn c =
@@ -27,5 +28,5 @@ returns-in-Err-clause-bounded c = λ small g. subst (λ (files : Image). length 
 
 pub returns-in-Err-clause-works : goal.returns-in-Err-clause-works
 returns-in-Err-clause-works c =
-    unchanged _ _ _ _ c.in-Err.ensures.files (ap reverse c.in-Err.ensures.log)
+    λ told. unchanged told _ _ _ _ c.in-Err.ensures.files (ap reverse c.in-Err.ensures.log)
     (Torn c.args.place (length c.args.bytes.now)) (torn_still c.args.place (length c.args.bytes.now)) c.args.file

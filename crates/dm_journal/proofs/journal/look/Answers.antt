@@ -14,4 +14,4 @@ returns-then-gate-eq-OPEN-clause-ok g c = λ ps payload k.
     let within : c.args.place + (c.args.n + 6) ≤ 2 ^ 62 =
     landed_within c.args.file c.args.place c.args.n ps payload _ _ k c.read_synced.ensures.works c.read_synced.ensures.same is_open (g.met.B.Bay.bounded c.args.bay.now c.args.file k.told) in
     let landed : leb (c.args.n + 6) (4611686018427387904 - c.args.place) ≡ true = le-leb _ _ (omega arith) in
-    landed_at c.args.file c.args.place c.args.n ps payload _ _ k c.read_synced.ensures.works c.read_synced.ensures.same c.in_ok-gate.ensures.durable _ landed is_open
+    landed_at c.args.file c.args.place c.args.n ps payload _ _ k c.read_synced.ensures.works c.read_synced.ensures.same (c.in_ok-gate.ensures.durable k.told) _ landed is_open

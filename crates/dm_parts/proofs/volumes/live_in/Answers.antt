@@ -1,4 +1,4 @@
-use Rattle.std.proofs.Common.{arith, sym, ◌∙◌, [], ap, ◌+◌, ◌≡◌}
+use Rattle.std.proofs.Common.{None, arith, sym, ◌∙◌, [], ap, ◌+◌, ◌≡◌}
 use Rattle.std.proofs.lemmas.List.{drop_all}
 use Rattle.dm_rules.specs.Numbers.{narrowed}
 use Rattle.dm_parts.specs.Volumes.{live_in, same_text}
@@ -15,7 +15,7 @@ loop-chunk-init c = record {
 
 pub loop-chunk-preserved : goal.loop-chunk-preserved
 loop-chunk-preserved c =
-    let next = drop_next c.args.chunks.now c.loop-chunk.chunk-index (record { offset = 0; len = 0; vsn = record { 0 = [] }; zone = 0; place = 0 }) c.loop-chunk-test.true in
+    let next = drop_next c.args.chunks.now c.loop-chunk.chunk-index (record { offset = 0; len = 0; vsn = record { 0 = [] }; zone = 0; place = 0; sum = None }) c.loop-chunk-test.true in
     record {
       is = elim c.if-eq.branch [
         | then-eq w ↦ live_here c.args.vsn.now _ _ _ c.loop-chunk.live c.if-eq.add _ _ next (sym (ap (λ t. same_text t c.args.vsn.now) c.as_slice.ensures) ∙ sym c.eq.ensures ∙ w.if-eq.true) w.add-is c.saturating_add-live.ensures c.loop-chunk.invariant.is

@@ -6,7 +6,7 @@ use Rattle.dm_plans.proofs.Written.{written_on, written_not, written_end}
 use Rattle.dm_plans.proofs.group_plans.are_written.Goals as goal
 
 abbrev no_piece : Piece
-no_piece = record { vsn = record { 0 = [] }; zone = 0; offset = 0; len = 0 }
+no_piece = record { vsn = record { 0 = [] }; version = 0; zone = 0; offset = 0; len = 0 }
 
 pub loop-index-init : goal.loop-index-init
 loop-index-init c = refl

@@ -5,10 +5,10 @@ use Rattle.dm_plans.proofs.Written.{piece_on, piece_here, piece_end}
 use Rattle.dm_plans.proofs.group_plans.piece_at.Goals as goal
 
 pub loop-piece-preserved : goal.loop-piece-preserved
-loop-piece-preserved c = piece_on c.loop-piece.left _ _ _ _ (drop_next c.args.pieces.now c.loop-piece.piece-index (record { vsn = record { 0 = [] }; zone = 0; offset = 0; len = 0 }) c.loop-piece-test.true) c.if-left-eq0.false c.loop-piece.invariant
+loop-piece-preserved c = piece_on c.loop-piece.left _ _ _ _ (drop_next c.args.pieces.now c.loop-piece.piece-index (record { vsn = record { 0 = [] }; version = 0; zone = 0; offset = 0; len = 0 }) c.loop-piece-test.true) c.if-left-eq0.false c.loop-piece.invariant
 
 pub returns-then-left-eq0 : goal.returns-then-left-eq0
-returns-then-left-eq0 c = piece_here c.loop-piece.left _ _ _ _ (drop_next c.args.pieces.now c.loop-piece.piece-index (record { vsn = record { 0 = [] }; zone = 0; offset = 0; len = 0 }) c.loop-piece-test.true) c.if-left-eq0.true c.loop-piece.invariant
+returns-then-left-eq0 c = piece_here c.loop-piece.left _ _ _ _ (drop_next c.args.pieces.now c.loop-piece.piece-index (record { vsn = record { 0 = [] }; version = 0; zone = 0; offset = 0; len = 0 }) c.loop-piece-test.true) c.if-left-eq0.true c.loop-piece.invariant
 
 pub returns : goal.returns
 returns c = piece_end c.loop-piece.left _ _ (drop_all c.loop-piece.piece-index c.args.pieces.now c.loop-piece-test.false) c.loop-piece.invariant

@@ -6,7 +6,7 @@ use Rattle.dm_plans.proofs.Layouts.{spread_begin, spread_first, spread_on, sprea
 use Rattle.dm_plans.proofs.layout.all_chunks.Goals as goal
 
 abbrev no_piece : Piece
-no_piece = record { vsn = record { 0 = [] }; zone = 0; offset = 0; len = 0 }
+no_piece = record { vsn = record { 0 = [] }; version = 0; zone = 0; offset = 0; len = 0 }
 
 pub loop-piece-init : goal.loop-piece-init
 loop-piece-init c = spread_begin c.new-chunks.result.items c.args.pieces.now c.args.chunk c.new-chunks.ensures.items c.requires

@@ -13,7 +13,7 @@ pub loop-space-preserved : goal.loop-space-preserved
 loop-space-preserved c =
     let spaces = c.args.spaces.now in
     let i = c.loop-space.space-index in
-    let d : Space = record { vsn = record { 0 = [] }; tip = 0; room = 0 } in
+    let d : Space = record { vsn = record { 0 = [] }; version = 0; tip = 0; room = 0 } in
     let next = drop_next spaces i d c.loop-space-test.true in
     elim c.if-taken-gt0.branch [
       | then-taken-gt0+in_ok-push w ↦ rw (w.pieces-is, w.offset-is, w.left-is) (placed_some c.loop-space.pieces.items w.push.new.self.items (drop i spaces) (drop (i + 1) spaces) spaces (get_or spaces i d) c.loop-space.offset c.loop-space.left c.args.len c.min-taken.result next c.min-taken.ensures (omega arith) w.in_ok-push.ensures.items c.loop-space.invariant)

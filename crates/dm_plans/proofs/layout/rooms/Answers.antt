@@ -15,7 +15,7 @@ pub loop-space-preserved : goal.loop-space-preserved
 loop-space-preserved c =
     let spaces = c.args.spaces.now in
     let i = c.loop-space.space-index in
-    let d : Space = record { vsn = record { 0 = [] }; tip = 0; room = 0 } in
+    let d : Space = record { vsn = record { 0 = [] }; version = 0; tip = 0; room = 0 } in
     rw c.from-sum.ensures (summed_on c.loop-space.sum _ i (drop i spaces) (drop (i + 1) spaces) (get_or spaces i d) (drop_next spaces i d c.loop-space-test.true) (omega arith) c.loop-space.invariant)
 
 pub returns : goal.returns

@@ -1,4 +1,4 @@
-use Rattle.std.proofs.Common.{◌-◌, ◌≤◌, length, take}
+use Rattle.std.proofs.Common.{◌≡◌, ◌-◌, ◌≤◌, length, take}
 use Rattle.dm_reply.specs.Took.{Took}
 use Rattle.dm_reply.proofs.send.send.Given as goal
 
@@ -10,7 +10,7 @@ invariant-loop-sent g l =
     record {
       within : l.sent ≤ length l.bytes;
       took : Took (taken l.fn.sink) (taken l.sink) (take l.sent l.bytes);
-      kept : count l.fn.sink ≤ count l.sink;
+      kept : count l.sink ≡ count l.fn.sink;
       ended : ends l.sink → ends l.fn.sink;
     }
 

@@ -11,12 +11,12 @@ invariant-loop-taken g l =
     let taken = g.K.Sink.taken in
     record {
       within : l.taken ≤ length l.piece;
-      talk : Talk (disk l.fn.bay).told (standing_of l.fn.archive (disk l.fn.bay) (taken l.fn.sink) (count l.fn.bay))
+      talk : Talk ((disk l.fn.bay).told 16) (standing_of l.fn.archive (disk l.fn.bay) (taken l.fn.sink) (count l.fn.bay))
           (standing_of l.archive (disk l.bay) (taken l.sink) (count l.bay)) (l.fn.reader.begun ++ take l.taken l.piece) l.reader.begun [];
       begun : MayBegin l.reader.begun;
       idle : l.reader.ready ≡ None;
       told : (disk l.bay).told ≡ (disk l.fn.bay).told;
-      kept : g.K.Sink.count l.fn.sink ≤ g.K.Sink.count l.sink;
+      count : g.K.Sink.count l.sink ≡ g.K.Sink.count l.fn.sink;
       ends : g.K.Sink.ends l.sink → g.K.Sink.ends l.fn.sink;
     }
 

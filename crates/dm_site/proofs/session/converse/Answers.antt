@@ -1,4 +1,4 @@
-use Rattle.std.proofs.Common.{ℕ, ◌∙◌, arith, rules, refl, ap, take}
+use Rattle.std.proofs.Common.{ℕ, ◌∙◌, arith, rules, refl, ap, take, Bool}
 use Rattle.dm_site.proofs.Scripts.{listened_as, listened_new, listened_front, may_begin_none, script_source_failed, script_at_end, script_stopped_as, script_used_up}
 use Rattle.dm_site.proofs.session.converse.Goals as goal
 
@@ -9,8 +9,8 @@ loop-more-init g c = record {
   idle = c.new-reader.ensures.ready;
   room = refl;
   told = refl;
-  source_kept = omega arith;
-  sink_kept = omega arith;
+  source_count = refl;
+  sink_count = refl;
   ends = λ e. e;
 }
 
@@ -20,13 +20,13 @@ loop-more-preserved g c =
     let read = c.in-Ok.ensures in
     let answered = c.in-Ok-answer_piece.ensures in
     record {
-      listened = listened_front _ _ _ _ _ _ _ _ c.loop-more.more c.in-Ok.n _ c.read_piece.new.buffer _ inv.told inv.listened read.taken read.fits read.few answered.talked;
+      listened = listened_front _ _ _ _ _ _ _ _ c.loop-more.more c.in-Ok.n _ c.read_piece.new.buffer _ (ap (λ (t : ℕ → Bool). t 16) inv.told) inv.listened read.taken read.fits read.few answered.talked;
       begun = answered.begun;
       idle = answered.idle;
       room = search rules;
       told = answered.told ∙ inv.told;
-      source_kept = omega (arith, inv.source_kept, read.cause.kept);
-      sink_kept = omega (arith, inv.sink_kept, answered.kept);
+      source_count = read.cause.none ∙ inv.source_count;
+      sink_count = answered.count ∙ inv.sink_count;
       ends = λ e. inv.ends (answered.ends e);
     }
 
@@ -43,7 +43,7 @@ returns-then-n-eq0-clause-script g c =
 pub returns-in-Err-answer_piece-clause-script : goal.returns-in-Err-answer_piece-clause-script
 returns-in-Err-answer_piece-clause-script g c =
     let inv = c.loop-more.invariant in
-    script_stopped_as _ _ _ _ _ _ _ _ _ _ _ _ _ c.stopped.ensures inv.told c.requires inv.listened c.in-Ok.ensures.taken c.in-Err-answer_piece.ensures.stopped
+    script_stopped_as _ _ _ _ _ _ _ _ _ _ _ _ _ c.stopped.ensures (ap (λ (t : ℕ → Bool). t 16) inv.told) c.requires inv.listened c.in-Ok.ensures.taken c.in-Err-answer_piece.ensures.stopped
 
 pub returns-clause-script : goal.returns-clause-script
 returns-clause-script g c =

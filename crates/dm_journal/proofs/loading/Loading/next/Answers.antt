@@ -1,4 +1,4 @@
-use Rattle.std.proofs.Common.{◌≡◌, ℕ, List, Some, None, sym, [], ◌∷◌, ◌++◌, length, Option, refl, ◌∙◌, ap, subst, rules}
+use Rattle.std.proofs.Common.{◌≡◌, ◌+◌, ◌<◌, ◌≤◌, ℕ, List, IfSome, Some, None, sym, [], ◌∷◌, ◌++◌, length, Option, refl, ◌∙◌, ap, subst, rules, arith}
 use Rattle.dm_host.specs.Disk.{Same}
 use Rattle.dm_host.specs.Works.{Works, File, Follows}
 use Rattle.dm_journal.specs.Grammar.{Fits}
@@ -24,11 +24,12 @@ returns-in-None g c =
         whole = λ ps r damage. absurd (found_whole d1 c.args.self.now ps None (found ps r) (subst (λ (l : List ℕ). IsDamage ps l) (sym same) damage));
         damaged = search rules;
         place = search rules;
+        within = tt;
         memory = search rules;
         conf = search rules;
         same = same;
         any_moment = subst (λ (j : LoadAt). Works (File j.file) d0 d1 (Follows Same j.file d0)) c.self.view_is c.advance.ensures.works;
-        cause = record { kept = c.advance.ensures.cause.kept; rose = search rules };
+        cause = record { kept = c.advance.ensures.cause.kept; none = search rules; rose = search rules };
       },
     )
 
@@ -38,6 +39,8 @@ returns-in-Some g c =
     let d1 = g.B.Bay.disk c.advance.new.bay in
     let at = loading_at c.self.inside.file c.self.inside.place 0 c.self.inside.end in
     let payload = c.deref.result.now in
+    let room : c.self.inside.place + (c.in-Some.n + 6) ≤ c.self.inside.end =
+    subst (λ (o : Option ℕ). IfSome o (λ n. c.self.inside.place + (n + 6) ≤ c.self.inside.end)) c.in-Some.is c.in_ok-advance.ensures.range in
     let size : c.in-Some.n ≡ length payload = search rules in
     let same : d1.seen c.args.self.now.file ≡ d0.seen c.args.self.now.file = subst (λ (j : LoadAt). d1.seen j.file ≡ d0.seen j.file) c.self.view_is c.advance.ensures.same in
     let found : (ps : List (List ℕ)) → Reading d0 c.args.self.now ps → Fits payload × Reading d1 (moved c.args.self.now (length payload)) (ps ++ payload ∷ []) = λ ps.
@@ -51,10 +54,11 @@ returns-in-Some g c =
         whole = λ ps r damage. absurd (found_whole d1 c.args.self.now ps (Some c.deref.result) (found ps r) (subst (λ (l : List ℕ). IsDamage ps l) (sym same) damage));
         damaged = search rules;
         place = search rules;
+        within = subst (λ (j : LoadAt). j.place + (5 + length payload) < j.end) c.self.view_is (omega (arith, room, size));
         memory = search rules;
         conf = search rules;
         same = same;
         any_moment = subst (λ (j : LoadAt). Works (File j.file) d0 d1 (Follows Same j.file d0)) c.self.view_is c.advance.ensures.works;
-        cause = record { kept = c.advance.ensures.cause.kept; rose = search rules };
+        cause = record { kept = c.advance.ensures.cause.kept; none = search rules; rose = search rules };
       },
     )

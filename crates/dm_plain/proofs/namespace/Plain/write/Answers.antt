@@ -5,6 +5,6 @@ use Rattle.dm_plain.proofs.namespace.Plain.write.Goals as goal
 
 pub returns-clause-ok : goal.returns-clause-ok
 returns-clause-ok c =
-    one_written c.self.inside.files.entries c.insert.new.self.entries c.self.inside.dumps.entries c.self.inside.now.0 c.args.path c.args.bytes
+    one_written c.self.inside.files.entries c.insert.new.self.entries c.self.inside.dumps.rows c.self.inside.now.0 c.self.inside.age c.args.path c.args.bytes
     c.in_ok-insert.ensures.updates.0
     ∙ ap (written c.args.path c.args.bytes) c.self.view_is

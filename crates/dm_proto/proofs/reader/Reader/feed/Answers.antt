@@ -3,10 +3,10 @@ use Rattle.std.proofs.lemmas.List.{length-drop}
 use Rattle.std.proofs.lemmas.Result.{err_from_is_err_and}
 use Rattle.std.specs.Option.{option_to_list}
 use Rattle.dm_proto.specs.Stream.{Consumes, Ends, TooLong}
-use Rattle.dm_proto.specs.Reading.{Reading}
+use Rattle.dm_proto.specs.Reading.{Reading, MayBegin}
 use Rattle.dm_proto.specs.declared.heard.Heard.{Heard}
 use Rattle.dm_proto.specs.declared.heard.InputError.TheVariants.{LongLine}
-use Rattle.dm_proto.proofs.Steps.{ready_none, err_same, step_on, long_on}
+use Rattle.dm_proto.proofs.Steps.{ready_none, err_same, step_on, long_on, may_begin}
 use Rattle.dm_proto.proofs.reader.Reader.feed.Goals as goal
 
 pub returns-in_err-taken-clause-long : goal.returns-in_err-taken-clause-long
@@ -38,3 +38,7 @@ pieces-preserved c =
       heard = step_on begun bytes c.pieces.self.begun c.step.new.self.begun c.pieces.taken more (option_to_list c.step.new.self.ready) so_far
           (subst (λ (x : List ℕ). Consumes (c.pieces.self.begun ++ take more x) (option_to_list c.step.new.self.ready) c.step.new.self.begun) c.split_at.ensures.back c.in_ok-taken.ensures.heard);
     }
+
+pub returns-else-taken-bytes-clause-begun : goal.returns-else-taken-bytes-clause-begun
+returns-else-taken-bytes-clause-begun c =
+    subst MayBegin (ap (λ (r : Reading). r.begun) c.self.view_is) (may_begin c.self.inside.line.items c.self.inside.payload c.self.invariant.held)

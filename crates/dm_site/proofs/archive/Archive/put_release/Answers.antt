@@ -5,7 +5,7 @@ use Rattle.dm_site.proofs.archive.Archive.put_release.Goals as goal
 pub returns-in-Ok-zone_of-clause-step : goal.returns-in-Ok-zone_of-clause-step
 returns-in-Ok-zone_of-clause-step g c =
     let found = c.in-Ok.ensures.ok in
-    c.store.ensures.step c.in-Ok.bytes.now found.0 (record { regular = found.1; unused = c.if-self-gt-LAST_NUMBER.false })
+    c.store.ensures.step c.in-Ok.bytes.now found.0 (record { regular = found.1; unused = c.if-self-gt-NUMBER_LIMIT.false })
     (record {
       is_zone = zone_as _ _ _ _ c.as_slice-in-Ok-zone_of.ensures.value c.as_slice.ensures c.in-Ok-zone_of.ensures;
       len_is = c.len-need.ensures;

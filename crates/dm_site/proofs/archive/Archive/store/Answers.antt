@@ -3,7 +3,7 @@ use Rattle.dm_site.specs.declared.file.File.{File}
 use Rattle.dm_site.specs.declared.file.Form.TheVariants.{Regular}
 use Rattle.dm_site.specs.Files.{file_in}
 use Rattle.dm_site.proofs.Tables.{ends_with_form}
-use Rattle.dm_site.proofs.Agreement.{keeps_torn, agrees_still, agrees_stored, zone_tip, zone_some, counts_one}
+use Rattle.dm_site.proofs.Agreement.{keeps_torn, agrees_still, agrees_stored, zone_tip, zone_some}
 use Rattle.dm_site.proofs.archive.Archive.store.Goals as goal
 
 pub returns-in-Err-clause-step : goal.returns-in-Err-clause-step
@@ -20,7 +20,7 @@ returns-in-Err-clause-step g c = λ bytes change may can. (
     files = refl;
     took = record { next_counter = refl; last_change = refl; tip = zone_tip _ _ _ can.is_zone };
   },
-  counts_one _ _ c.in-Err.ensures.cause.kept c.in-Err.ensures.cause.rose,
+  c.in-Err.ensures.cause.rose,
 )
 
 pub returns-in-Err-clause-agrees : goal.returns-in-Err-clause-agrees

@@ -23,5 +23,5 @@ returns c =
     (c.remove-2.ensures.removed ∙ ap (remove c.args.self.inodes) c.from-key.ensures)
     (c.bitfile_at-named.ensures ∙ ap (λ k. bitfile_in (get c.args.self.inodes k)) c.from-key.ensures)
     c.in_ok-let_go_if.ensures
-    ∙ ap named (c.remove.ensures.removed ∙ ap (remove c.args.self.names) c.bytes.ensures)
+    ∙ ap named (c.remove.ensures.removed ∙ ap (remove c.args.self.names) c.bytes.ensures.text)
     ∙ ap (file_removed c.args.self c.args.path.now c.args.change) c.in-Some.ensures

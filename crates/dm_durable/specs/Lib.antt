@@ -1,0 +1,13 @@
+pub mod Tables
+pub mod Limits
+pub mod Inodes
+pub mod Entries
+pub mod Dumps
+pub mod Daemon
+pub mod DaemonConditions
+pub mod Group
+pub mod GroupConditions
+pub mod Volumes
+pub mod Fields
+pub mod DaemonJournal
+pub mod GroupJournal

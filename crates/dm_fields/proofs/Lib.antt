@@ -1,0 +1,7 @@
+pub mod Bytes
+pub mod Puts
+pub mod Absent
+pub mod Items
+pub mod Tagged
+pub mod PartsAbsent
+pub mod Whole

@@ -1,0 +1,5 @@
+use Rattle.dm_fields.proofs.Absent.{too_short}
+use Rattle.dm_fields.proofs.scalars.U64Field.read.Goals as goal
+
+pub returns-in-None : goal.returns-in-None
+returns-in-None c = λ x rest fits e. too_short 8 x c.args.input.now rest c.in-None.ensures e

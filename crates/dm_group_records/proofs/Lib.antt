@@ -1,0 +1,5 @@
+pub mod KindForms
+pub mod StepForms
+pub mod StepOnce
+pub mod OldForms
+pub mod LogForms

@@ -1,0 +1,5 @@
+pub mod Steps
+pub mod OldSteps
+pub mod Chunks
+pub mod Rows
+pub mod Payloads

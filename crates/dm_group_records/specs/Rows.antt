@@ -1,0 +1,23 @@
+-- What each row of a checkpoint of a group is spelled as: its kind in one byte, and these fields.
+use Rattle.std.specs.Prelude.{ℕ, List, [], ◌∷◌, ◌++◌}
+use Rattle.dm_durable.specs.declared.group_journal.GroupRow.{GroupRow}
+use Rattle.dm_durable.specs.declared.group_journal.GroupRow.TheVariants.{State, Volume, Bitfile, OldVolume, OldBitfile}
+use Rattle.dm_fields.specs.Fields.{byte_field, chunk_field, longer_chunk_field, list_field, moment_field}
+use Rattle.dm_fields.specs.Numbers.{be64}
+use Rattle.dm_group_records.specs.Steps.{bfid_field, serial_field}
+
+abbrev pub row_byte : GroupRow → ℕ
+row_byte (State time group) = 40
+row_byte (Volume vsn v) = 43
+row_byte (Bitfile b r) = 44
+row_byte (OldVolume vsn v) = 41
+row_byte (OldBitfile b r) = 42
+
+abbrev pub row_fields : GroupRow → List ℕ
+row_fields (State time group) = be64 time.0 ++ byte_field group.0
+row_fields (Volume vsn v) =
+    serial_field vsn ++ (byte_field v.slot ++ (byte_field v.version ++ (be64 v.size ++ (be64 v.epoch ++ (be64 v.end ++ moment_field v.held)))))
+row_fields (Bitfile b r) = bfid_field b ++ (be64 r.len ++ list_field longer_chunk_field r.chunks)
+row_fields (OldVolume vsn v) =
+    serial_field vsn ++ (byte_field v.slot ++ (be64 v.size ++ (be64 v.epoch ++ (be64 v.end ++ moment_field v.held))))
+row_fields (OldBitfile b r) = bfid_field b ++ (be64 r.len ++ list_field chunk_field r.chunks)

@@ -1,0 +1,54 @@
+-- The invariant, of the bitfiles that a group has.
+use Rattle.std.specs.Prelude.{◌≡◌, ◌≤◌, ◌+◌, ℕ, true, false, None, Some, IsSome, is_some, List, length}
+use Rattle.std.specs.FinMap as map
+use Rattle.dm_base.specs.declared.volume.Chunk.{Chunk}
+use Rattle.dm_rules.specs.Label.{first_zone}
+use Rattle.dm_rules.specs.Version.{has_sum}
+use Rattle.dm_tables.specs.Rows.{EachRow}
+use Rattle.dm_durable.specs.declared.daemon.Entry.{Entry}
+use Rattle.dm_durable.specs.declared.group.BitfileRow.{BitfileRow}
+use Rattle.dm_durable.specs.declared.group.VolumeRow.{VolumeRow}
+use Rattle.dm_durable.specs.Tables.{Numbered, Named}
+use Rattle.dm_durable.specs.Entries.{asks, has_stored}
+use Rattle.dm_durable.specs.GroupConditions.{Joins}
+use Rattle.dm_model.specs.declared.state.Image.{Image}
+use Rattle.dm_invariant.specs.Among.{Among}
+use Rattle.dm_invariant.specs.Assemble.{ChunkKnown, SumRight}
+
+-- a chunk of a stored bitfile lies behind the label of a volume that isn't held, before its end, and has a sum exactly
+-- where that volume's chunks do
+pub record LiesBefore (volumes : Named VolumeRow) (c : Chunk) : Type 0 where
+  pub volume : VolumeRow
+  pub is : map.get volumes c.vsn.0 ≡ Some volume
+  pub usable : volume.held ≡ None
+  pub behind : first_zone ≤ c.place
+  pub within : c.place + c.len ≤ volume.end
+  pub sum : is_some c.sum ≡ has_sum volume.version
+
+-- a bitfile of the group: its entry asks the group, its chunks join, lie on volumes, and are known to be its content
+pub record BitfileKept (g : ℕ) (entries : Numbered Entry) (contents : Numbered (List ℕ)) (volumes : Named VolumeRow) (images : Named Image) (b : ℕ)
+    (row : BitfileRow) : Type 0 where
+  pub entry : Entry
+  pub is : map.get entries b ≡ Some entry
+  pub asked : asks entry g ≡ true
+  pub len : entry.len ≡ row.len
+  pub bytes : List ℕ
+  pub content : map.get contents b ≡ Some bytes
+  pub whole : length bytes ≡ row.len
+  pub joins : Joins 0 row.chunks row.len
+  pub lies : (c : Chunk) → Among c row.chunks → LiesBefore volumes c
+  pub known : (c : Chunk) → Among c row.chunks → ChunkKnown images bytes c
+  pub sums : (c : Chunk) → Among c row.chunks → SumRight bytes c
+
+-- the bitfiles of a group agree with the entries, and with what was committed and deleted
+pub record CatalogueKept (g : ℕ) (entries : Numbered Entry) (contents : Numbered (List ℕ)) (taken : Numbered (Unit {0})) (volumes : Named VolumeRow)
+    (images : Named Image) (bitfiles : Numbered BitfileRow) (committed deleted : Numbered (Unit {0})) : Type 0 where
+  pub bitfile : EachRow bitfiles (BitfileKept g entries contents volumes images)
+  -- what an entry says is stored is there, unless it is being dropped
+  pub stored : EachRow entries (λ b e. e.dropping ≡ false → has_stored e g ≡ true → IsSome (map.get bitfiles b))
+  -- so is what was committed; and its content is known
+  pub commits : EachRow committed (λ b u. (e : Entry) → map.get entries b ≡ Some e → e.dropping ≡ false → IsSome (map.get bitfiles b))
+  pub commits_made : EachRow committed (λ b u. IsSome (map.get contents b))
+  -- what the group was told to delete was taken by a hard delete, and isn't there
+  pub deletes : EachRow deleted (λ b u. map.get bitfiles b ≡ None)
+  pub deletes_taken : EachRow deleted (λ b u. IsSome (map.get taken b))

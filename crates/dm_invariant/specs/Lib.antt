@@ -1,0 +1,16 @@
+pub mod Among
+pub mod Assemble
+pub mod Files
+pub mod Requests
+pub mod Places
+pub mod Catalogue
+pub mod Volumes
+pub mod Reservations
+pub mod OnceLive
+pub mod Mounts
+pub mod Moves
+pub mod Doubts
+pub mod Kept
+pub mod Sound
+pub mod Opened
+pub mod StandsFor

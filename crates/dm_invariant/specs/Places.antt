@@ -1,0 +1,98 @@
+-- The invariant, of the places of volumes: none is of two chunks or zones.
+--
+-- Who has a place is an owner: a chunk of a stored bitfile, a zone of a reservation, the zone of a chunk that is moved, or
+-- a chunk of a record in doubt. Each is named so that two owners are one exactly where they are the same thing; so a commit
+-- and a move only rename the owner of their places.
+use Rattle.std.specs.Prelude.{◌≡◌, ◌≤◌, ◌<◌, ◌+◌, ℕ, Option, None, Some, List}
+use Rattle.std.specs.FinMap as map
+use Rattle.dm_base.specs.declared.volume.Chunk.{Chunk}
+use Rattle.dm_base.specs.declared.volume.Piece.{Piece}
+use Rattle.dm_rules.specs.Plan.{zone_end}
+use Rattle.dm_rules.specs.Zone.{weight}
+use Rattle.dm_durable.specs.declared.group.BitfileRow.{BitfileRow}
+use Rattle.dm_durable.specs.declared.group.GroupRecord.{GroupRecord}
+use Rattle.dm_durable.specs.declared.group.GroupStep.{GroupStep}
+use Rattle.dm_durable.specs.declared.group.GroupStep.TheVariants.{Volume, Commit, Delete, Move, Free, Reuse}
+use Rattle.dm_durable.specs.Tables.{Numbered}
+use Rattle.dm_model.specs.declared.state.Moving.{Moving}
+use Rattle.dm_model.specs.declared.state.Reserved.{Reserved}
+use Rattle.dm_invariant.specs.Among.{Among}
+
+-- ---- what covers a place
+
+-- a place is one of a chunk's on a volume
+pub record ChunkCovers (c : Chunk) (vsn : List ℕ) (place : ℕ) : Type 0 where
+  pub same : c.vsn.0 ≡ vsn
+  pub low : c.place ≤ place
+  pub high : place < c.place + c.len
+
+-- a place is one of the zone of a piece
+pub record PieceCovers (chunk : ℕ) (p : Piece) (vsn : List ℕ) (place : ℕ) : Type 0 where
+  pub same : p.vsn.0 ≡ vsn
+  pub low : p.zone ≤ place
+  pub high : place < zone_end chunk p
+
+-- a place is one of the zone of a chunk that is moved to a volume of this version
+pub record TargetCovers (version : ℕ) (c : Chunk) (vsn : List ℕ) (place : ℕ) : Type 0 where
+  pub same : c.vsn.0 ≡ vsn
+  pub low : c.zone ≤ place
+  pub high : place < c.zone + weight version c.len
+
+-- ---- owners
+
+pub data Owner : Type 0 where
+  Live : (bitfile offset : ℕ) → Owner
+  Kept : (reservation offset : ℕ) → Owner
+  Target : (job : ℕ) → Owner
+  Doubted : (offset : ℕ) → Owner
+
+pub record HasLive (bitfiles : Numbered BitfileRow) (b offset : ℕ) (vsn : List ℕ) (place : ℕ) : Type 0 where
+  pub row : BitfileRow
+  pub is : map.get bitfiles b ≡ Some row
+  pub chunk : Chunk
+  pub among : Among chunk row.chunks
+  pub at : chunk.offset ≡ offset
+  pub covers : ChunkCovers chunk vsn place
+
+pub record HasKept (reservations : Numbered Reserved) (n offset : ℕ) (vsn : List ℕ) (place : ℕ) : Type 0 where
+  pub reserved : Reserved
+  pub is : map.get reservations n ≡ Some reserved
+  pub piece : Piece
+  pub among : Among piece reserved.pieces
+  pub at : piece.offset ≡ offset
+  pub covers : PieceCovers reserved.chunk piece vsn place
+
+pub record HasTarget (moves : Numbered Moving) (job : ℕ) (vsn : List ℕ) (place : ℕ) : Type 0 where
+  pub moving : Moving
+  pub is : map.get moves job ≡ Some moving
+  pub covers : TargetCovers moving.version moving.to vsn place
+
+-- the chunks that a step puts on volumes
+abbrev pub IsPut : Chunk → GroupStep → Type 0
+IsPut c (Volume vsn slot version size) = ⊥
+IsPut c (Commit b len chunks) = Among c chunks
+IsPut c (Delete b) = ⊥
+IsPut c (Move b from to) = c ≡ to
+IsPut c (Free vsn) = ⊥
+IsPut c (Reuse vsn epoch version) = ⊥
+
+abbrev pub IsDoubted : Chunk → Option GroupRecord → Type 0
+IsDoubted c None = ⊥
+IsDoubted c (Some r) = IsPut c r.step
+
+pub record HasDoubted (doubt : Option GroupRecord) (offset : ℕ) (vsn : List ℕ) (place : ℕ) : Type 0 where
+  pub chunk : Chunk
+  pub among : IsDoubted chunk doubt
+  pub at : chunk.offset ≡ offset
+  pub covers : ChunkCovers chunk vsn place
+
+abbrev pub Has : Numbered BitfileRow → Numbered Reserved → Numbered Moving → Option GroupRecord → Owner → List ℕ → ℕ → Type 0
+Has bitfiles reservations moves doubt (Live b offset) vsn place = HasLive bitfiles b offset vsn place
+Has bitfiles reservations moves doubt (Kept n offset) vsn place = HasKept reservations n offset vsn place
+Has bitfiles reservations moves doubt (Target job) vsn place = HasTarget moves job vsn place
+Has bitfiles reservations moves doubt (Doubted offset) vsn place = HasDoubted doubt offset vsn place
+
+-- no place is of two
+abbrev pub PlacesKept : Numbered BitfileRow → Numbered Reserved → Numbered Moving → Option GroupRecord → Type 0
+PlacesKept bitfiles reservations moves doubt =
+    (o p : Owner) (vsn : List ℕ) (place : ℕ) → Has bitfiles reservations moves doubt o vsn place → Has bitfiles reservations moves doubt p vsn place → o ≡ p

@@ -1,0 +1,44 @@
+-- groups and their volumes
+pub mod VolumesOnward
+pub mod GroupLanding
+pub mod VolumeEndsRaised
+pub mod VolumeChunkLists
+pub mod VolumeAdded
+pub mod VolumeUnused
+pub mod VolumeFreed
+pub mod VolumeReused
+pub mod VolumeBitfiles
+pub mod VolumeEnds
+pub mod VolumeCommitted
+pub mod VolumeMoved
+pub mod GroupLanded
+-- files of the daemon
+pub mod NamedRows
+pub mod CopiesStored
+pub mod Fates
+pub mod FatesFiles
+pub mod FatesRequests
+pub mod RequestsLanded
+pub mod EntriesGone
+pub mod FilesWith
+pub mod FilesStay
+pub mod NamesPut
+pub mod FilesChange
+pub mod FilesFormed
+pub mod FilesBegun
+pub mod FilesLanded
+pub mod EntriesLanded
+pub mod DumpsLanded
+pub mod TakenLanded
+pub mod RecallsLanded
+pub mod SidesOnward
+pub mod DaemonLanded
+-- what the daemon's calls journal
+pub mod CallFiles
+pub mod CallWrites
+pub mod CallPatches
+pub mod CallPuts
+pub mod CallDumps
+pub mod CallDeletes
+pub mod CallRecalls
+pub mod CallsLanded

@@ -1,0 +1,4 @@
+pub mod Shares
+pub mod PlansOf
+pub mod Worked
+pub mod Planned

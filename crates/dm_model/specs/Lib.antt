@@ -1,0 +1,16 @@
+pub mod Guards
+pub mod Plan
+pub mod Files
+pub mod Volumes
+pub mod GroupCalls
+pub mod VolumeCalls
+pub mod DaemonCalls
+pub mod DaemonShare
+pub mod GroupShare
+pub mod SideShare
+pub mod Effects
+pub mod Step
+pub mod Names
+pub mod Begin
+pub mod Hashed
+pub mod Project

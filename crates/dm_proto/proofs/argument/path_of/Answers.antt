@@ -1,0 +1,6 @@
+use Rattle.std.proofs.Common.{Err, ap}
+use Rattle.dm_proto.proofs.Slots.{path_none}
+use Rattle.dm_proto.proofs.argument.path_of.Goals as goal
+
+pub returns-in-Err-Grammar-clause-found : goal.returns-in-Err-Grammar-clause-found
+returns-in-Err-Grammar-clause-found c = path_none _ (c.in-Err-Grammar.ensures.grammar.0 (ap (λ e. Err e) c.in-Err-Grammar.field-0-is))

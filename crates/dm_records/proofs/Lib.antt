@@ -1,0 +1,4 @@
+pub mod StepForms
+pub mod StepOnce
+pub mod LogForms
+pub mod Lengths

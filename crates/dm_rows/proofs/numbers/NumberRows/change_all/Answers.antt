@@ -1,0 +1,24 @@
+use Rattle.std.proofs.Common.{ap, subst, ◌≡◌, ◌∙◌, length, sym, IsTrue, map as map_list}
+use Rattle.std.specs.Ordering.{nat_cmp}
+use Rattle.dm_tables.proofs.Orders.{numbers}
+use Rattle.dm_rows.specs.Places.{row_of}
+use Rattle.std.specs.FinMap.{is_sorted, from_entries}
+use Rattle.dm_tables.specs.Rows.{changed}
+use Rattle.dm_rows.proofs.Methods.{Stands, refilled, all_edited, all_order}
+use Rattle.dm_rows.proofs.numbers.NumberRows.change_all.Goals as goal
+
+pub invariant_of-self : goal.invariant_of-self
+invariant_of-self g c =
+    let s : Stands {R = nat_cmp} row_of c.self.inside.rows.items c.args.self.now.rows = record { order = c.self.invariant; is = ap (λ t. t.rows) c.self.view_is } in
+    let as_many : length c.edit_all.new.rows ≡ length c.self.inside.rows.items = c.edit_all.auto.rows ∙ ap length c.as_mut_slice.ensures.value in
+    let back = refilled row_of c.edit_all.new.rows c.self.inside.rows.items c.self.inside.rows.len c.self.inside.rows.ok.0 as_many in
+    let e = c.edit_all.ensures ∙ ap (λ l. changed (λ _. g.F.Edit.edited c.args.edit.now) (map_list row_of l)) c.as_mut_slice.ensures.value in
+    subst (λ l. IsTrue (is_sorted nat_cmp l)) (sym back) (all_order numbers row_of c.self.inside.rows.items c.args.self.now.rows s (g.F.Edit.edited c.args.edit.now) c.edit_all.new.rows e)
+
+pub returns-clause-rows : goal.returns-clause-rows
+returns-clause-rows g c =
+    let s : Stands {R = nat_cmp} row_of c.self.inside.rows.items c.args.self.now.rows = record { order = c.self.invariant; is = ap (λ t. t.rows) c.self.view_is } in
+    let as_many : length c.edit_all.new.rows ≡ length c.self.inside.rows.items = c.edit_all.auto.rows ∙ ap length c.as_mut_slice.ensures.value in
+    let back = refilled row_of c.edit_all.new.rows c.self.inside.rows.items c.self.inside.rows.len c.self.inside.rows.ok.0 as_many in
+    let e = c.edit_all.ensures ∙ ap (λ l. changed (λ _. g.F.Edit.edited c.args.edit.now) (map_list row_of l)) c.as_mut_slice.ensures.value in
+    ap (from_entries {R = nat_cmp}) back ∙ all_edited numbers row_of c.self.inside.rows.items c.args.self.now.rows s (g.F.Edit.edited c.args.edit.now) c.edit_all.new.rows e

@@ -1,0 +1,27 @@
+use Rattle.std.proofs.Common.{ap, arith, Some, ◌∙◌}
+use Rattle.std.specs.Ordering.{nat_cmp}
+use Rattle.dm_tables.proofs.Orders.{numbers}
+use Rattle.dm_rows.specs.Places.{row_of}
+use Rattle.dm_rows.proofs.Methods.{Stands, answered, hit_within, row_there, none_there}
+use Rattle.dm_rows.proofs.numbers.NumberRows.get.Goals as goal
+
+pub index-requires : goal.index-requires
+index-requires g c =
+    let s : Stands {R = nat_cmp} row_of c.self.inside.rows.items c.args.self.now.rows = record { order = c.self.invariant; is = ap (λ t. t.rows) c.self.view_is } in
+    let h = answered nat_cmp row_of c.args.key c.as_slice.result.now c.self.inside.rows.items c.place.result _ c.as_slice.ensures.value c.place.ensures c.in-Ok.is in
+    let small = hit_within numbers row_of c.self.inside.rows.items c.args.self.now.rows s c.args.key c.in-Ok.at h in
+    let ok = c.self.inside.rows.ok in
+    omega arith
+
+pub returns-in-Ok : goal.returns-in-Ok
+returns-in-Ok g c =
+    let s : Stands {R = nat_cmp} row_of c.self.inside.rows.items c.args.self.now.rows = record { order = c.self.invariant; is = ap (λ t. t.rows) c.self.view_is } in
+    let h = answered nat_cmp row_of c.args.key c.as_slice.result.now c.self.inside.rows.items c.place.result _ c.as_slice.ensures.value c.place.ensures c.in-Ok.is in
+    ap (λ b. Some b.1) c.deref.ensures
+    ∙ row_there numbers row_of c.self.inside.rows.items c.args.self.now.rows s c.args.key c.in-Ok.at h c.index.result.now c.index.ensures
+
+pub returns-in-Err : goal.returns-in-Err
+returns-in-Err g c =
+    let s : Stands {R = nat_cmp} row_of c.self.inside.rows.items c.args.self.now.rows = record { order = c.self.invariant; is = ap (λ t. t.rows) c.self.view_is } in
+    let h = answered nat_cmp row_of c.args.key c.as_slice.result.now c.self.inside.rows.items c.place.result _ c.as_slice.ensures.value c.place.ensures c.in-Err.is in
+    none_there numbers row_of c.self.inside.rows.items c.args.self.now.rows s c.args.key c.in-Err.field-0 h
