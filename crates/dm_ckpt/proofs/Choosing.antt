@@ -239,7 +239,7 @@ holds_behind g area (inl shut) = inl shut
 holds_behind g area (inr earlier) = inr (earlier.0, (earlier.1.0, earlier.1.1.0))
 
 -- an area has one generation
-one_generation : (g h : ℕ) (rows more : List (List ℕ)) (area : List ℕ) → HoldsRows g rows area → HoldsRows h more area → h ≡ g
+pub one_generation : (g h : ℕ) (rows more : List (List ℕ)) (area : List ℕ) → HoldsRows g rows area → HoldsRows h more area → h ≡ g
 one_generation g h rows more area a b = (says_once g rows area 1 h (length (body more)) a b.number b.size (says_holds h more area b)).1.0
 
 apart : (o : Origin) (own other : List ℕ) → Reads o own other → (g : ℕ) (rows more : List (List ℕ)) → HoldsRows g rows own → HoldsRows g more other → ⊥

@@ -12,3 +12,5 @@ pub mod Settling
 mod Choosing
 mod Rowing
 pub mod Writing
+pub mod Once
+pub mod Meaning

@@ -5,3 +5,4 @@ pub mod Writing
 pub mod Survey
 pub mod Load
 pub mod Opening
+pub mod Meaning

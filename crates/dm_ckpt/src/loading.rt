@@ -9,7 +9,9 @@ ghost use Rattle.dm_journal.specs.Grammar.{longest, buffer_room};
 ghost use Rattle.dm_journal.specs.Load.{HasLoadCause};
 ghost use Rattle.dm_ckpt.specs.Files.{Mine, TellsMine, Unchanged, area_file, log_file};
 ghost use Rattle.dm_ckpt.specs.Load.{LoadAt, RowsAt, FirstRow, Reading, Finds, Gives, Retells, IsDamagedArea, IsDamagedLog, Steps, StepStands, FindStands, LoadStands, loading, moved, ready_at};
+ghost use Rattle.dm_ckpt.specs.Meaning.{AreAll};
 ghost use Rattle.dm_ckpt.specs.Opening.{Means, load_at};
+ghost use Rattle.dm_ckpt.specs.State.{StandsFor};
 
 use crate::Store;
 use crate::files::{Index, area_number, log_number};
@@ -283,11 +285,12 @@ impl StoreLoading {
     ghost use Rattle.std.specs.Io.BufRead.{Rests};
     ghost use Rattle.dm_ckpt.specs.contracts.loading.StoreLoading.{the_row};
 
-    /// The next payload: the rows of the area in use, then the payloads of its log, and `None` behind them. After an error
-    /// the load stands where it stood. Takes no memory.
+    /// The next payload: the rows of the area in use, then the payloads of its log, and `None` behind them: then those
+    /// handed out are all that the files stood for. After an error the load stands where it stood. Takes no memory.
     pub fn next<B: Bay>(&mut self, bay: &mut B) -> Result<Option<&[u8]>, LoadError>
         ensures* after_borrow { sem 𝓛 (Rests the_row self.entry (λ new. Gives self.old result new)) }
         ensures found { (ps : List (List ℕ)) → Reading (B.disk bay.old) self.old ps → IfOk result (λ found. Finds (B.disk bay.new) self.old ps found) }
+        ensures all { (ps qs : List (List ℕ)) → Reading (B.disk bay.old) self.old ps → StandsFor self.old.component qs (B.disk bay.old).seen → IfOk result (λ found. AreAll ps qs found) }
         ensures damaged { (ps : List (List ℕ)) → Reading (B.disk bay.old) self.old ps
             → (x y : ℕ) → IsErrOf result (Damaged x y) → (self.old.row_end ≤ self.old.row) × IsDamagedLog self.old (B.disk bay.old).seen }
         ensures whole { (ps : List (List ℕ)) → Reading (B.disk bay.old) self.old ps → self.old.row_end ≤ self.old.row

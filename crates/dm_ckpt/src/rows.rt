@@ -13,6 +13,9 @@ pub trait Rows {
     /// The payloads, in their order.
     ghost rows: { Self → List (List ℕ) };
 
+    /// Which lists of payloads stand for this state: those whose fold is this state, say.
+    ghost means: { Self → List (List ℕ) → Type 0 };
+
     fn count(&self) -> u64
         ensures { result ≡ length (rows self.now) };
 

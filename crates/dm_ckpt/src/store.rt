@@ -15,6 +15,7 @@ ghost use Rattle.dm_base.specs.declared.conf.ConfKey.{ConfKey};
 ghost use Rattle.dm_base.specs.declared.error.LoadError.TheVariants.{Conf, Damaged, NoMemory};
 ghost use Rattle.dm_journal.specs.Load.{HasLoadCause};
 ghost use Rattle.dm_ckpt.specs.Load.{Reading, Retells, IsDamagedArea, LoadStands};
+ghost use Rattle.dm_ckpt.specs.Meaning.{StandsForState, KeepsState, TurnsState};
 ghost use Rattle.dm_ckpt.specs.Opening.{Means};
 ghost use Rattle.dm_ckpt.specs.declared.doubt.Doubt.TheVariants.{Sure, Payload, Closing, Turning};
 ghost use Rattle.dm_ckpt.specs.Area.{body_length, body_limit};
@@ -267,9 +268,11 @@ impl Store {
         self.doubt = Doubt::Sure;
     }
 
-    /// Puts the state's rows in the place of the list, and begins an empty log. The caller sees to it that they stand for
-    /// the same state. Where it fails it is in doubt which of the two lists is there. Where the generation stands at its
-    /// last value nothing is done. Takes no memory.
+    /// Puts the state's rows in the place of the list, and begins an empty log. Where it fails it is in doubt which of the
+    /// two lists is there. Where the generation stands at its last value nothing is done. Takes no memory.
+    ///
+    /// The caller sees to it that both lists stand for the state (`means`). A crash at any moment, and the store itself
+    /// however the call ends, then has a list that does.
     pub fn checkpoint<B: Bay, T: Rows>(&mut self, bay: &mut B, state: &T) -> Result<(), Failed>
         requires settled { self.old.doubt ≡ Sure }
         requires stands { Stands (B.disk bay.old) self.old }
@@ -280,6 +283,11 @@ impl Store {
         ensures err { (ps : List (List ℕ)) → Keeps (B.disk bay.old) self.old ps → OnErr result (Turns (B.disk bay.new) self.new ps (T.rows state.now)) }
         ensures any_moment { (ps : List (List ℕ)) → Keeps (B.disk bay.old) self.old ps
             → Works (Mine self.old.component) (B.disk bay.old) (B.disk bay.new) (Either self.old.component ps (T.rows state.now)) }
+        // The same for a caller to whom lists are a state that they stand for.
+        ensures settled { T.means state.now (T.rows state.now) → KeepsState (B.disk bay.old) self.old (T.means state.now)
+            → Works (Mine self.old.component) (B.disk bay.old) (B.disk bay.new) (StandsForState self.old.component (T.means state.now)) }
+        ensures settled_ok { T.means state.now (T.rows state.now) → KeepsState (B.disk bay.old) self.old (T.means state.now) → OnOk result (KeepsState (B.disk bay.new) self.new (T.means state.now)) }
+        ensures settled_err { T.means state.now (T.rows state.now) → KeepsState (B.disk bay.old) self.old (T.means state.now) → OnErr result (TurnsState (B.disk bay.new) self.new (T.means state.now)) }
         ensures used_up { self.old.generation ≡ last_generation → (result ≡ Ok tt) × (self.new ≡ self.old) × (bay.new ≡ bay.old) }
         ensures others { Works (Mine self.old.component) (B.disk bay.old) (B.disk bay.new) (λ x. ⊤) }
         ensures moved { self.old.generation < last_generation → OnOk result (self.new ≡ checkpointed self.old) }

@@ -7,6 +7,7 @@ use Rattle.dm_ckpt.specs.Files.{area_file, log_file, Unchanged}
 use Rattle.dm_ckpt.specs.State.{Keeps, Stands}
 use Rattle.dm_ckpt.specs.Load.{LoadAt, Reading, IsDamagedLog, LoadStands, Steps, StepStands, loading, moved, ready_at}
 use Rattle.dm_ckpt.proofs.Outcome.{other_err}
+use Rattle.dm_ckpt.proofs.Meaning.{kept_before}
 use Rattle.dm_ckpt.proofs.Rowing.{lent, spot_within}
 use Rattle.dm_ckpt.proofs.loading.StoreLoading.next.Goals as goal
 
@@ -22,6 +23,7 @@ returns-in-Err g c =
       record {
         after_borrow = tt;
         found = λ ps r. tt;
+        all = λ ps qs r stands. tt;
         damaged = λ ps. subst (λ (s : LoadAt). Reading a s ps → (x y : ℕ) → IsErrOf {T = Option (Bor (List ℕ))} (Err e) (Damaged x y) → (s.row_end ≤ s.row) × IsDamagedLog s a.seen) c.self.view_is
             (λ r x y is. c.in-Err.ensures.damaged i.has_area i.generation i.file i.last ps r x y (other_err e (Damaged x y) is));
         whole = λ ps r past damaged. refl;
@@ -54,6 +56,7 @@ returns-in-Ok-None g c =
       record {
         after_borrow = tt;
         found = found;
+        all = λ ps qs r stands. kept_before a b c.args.self.now ps qs u (found ps r) stands;
         damaged = search rules;
         whole = λ ps. subst (λ (s : LoadAt). Reading a s ps → s.row_end ≤ s.row → IsDamagedLog s a.seen → IsErr {T = Option (Bor (List ℕ))} {E = LoadError} (Ok None)) c.self.view_is
             (λ r past damaged. c.in-Ok-None.ensures.whole i.has_area i.generation i.file i.last ps r past damaged);
@@ -90,6 +93,7 @@ returns-in-Ok-Some g c =
       record {
         after_borrow = tt;
         found = found;
+        all = λ ps qs r stands. tt;
         damaged = search rules;
         whole = λ ps. subst (λ (s : LoadAt). Reading a s ps → s.row_end ≤ s.row → IsDamagedLog s a.seen → IsErr {T = Option (Bor (List ℕ))} {E = LoadError} (Ok (Some c.deref.result))) c.self.view_is
             (λ r past damaged. c.in-Ok-Some.ensures.whole i.has_area i.generation i.file i.last ps r past damaged);
