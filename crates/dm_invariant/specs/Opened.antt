@@ -4,6 +4,7 @@ use Rattle.std.specs.FinMap as map
 use Rattle.dm_tables.specs.Rows.{EachRow}
 use Rattle.dm_durable.specs.Tables.{Numbered}
 use Rattle.dm_durable.specs.Daemon.{size_of}
+use Rattle.dm_durable.specs.DaemonJournal.{IsGiven}
 use Rattle.dm_durable.specs.Entries.{groups_asked}
 use Rattle.dm_durable.specs.Inodes.{has_making}
 use Rattle.dm_model.specs.declared.state.Joint.{Joint}
@@ -12,7 +13,7 @@ use Rattle.dm_invariant.specs.Doubts.{AllConfigured}
 use Rattle.dm_invariant.specs.Files.{TakenKept}
 use Rattle.dm_invariant.specs.Kept.{committed_in, deleted_in}
 use Rattle.dm_invariant.specs.Sound.{Sound}
-use Rattle.dm_invariant.specs.Volumes.{ConfFits, IsNumberOf, VolumeKept}
+use Rattle.dm_invariant.specs.Volumes.{ConfFits, ImagesFit, IsNumberOf, VolumeKept}
 
 -- ---- what the configuration asks
 
@@ -43,6 +44,8 @@ pub record SideOpened (committed deleted : Numbered (Unit {0})) (s : Side) : Typ
   pub commits : EachRow committed (λ b u. IsSome (map.get s.group.tables.bitfiles b))
   pub has : EachRow s.group.tables.bitfiles (λ b row. IsSome (map.get committed b))
   pub deletes : deleted ≡ map.empty
+  -- each of its volumes has an image of its size
+  pub images : ImagesFit s.group.conf s.images
 
 pub record Opened (j : Joint) : Type 0 where
   pub sound : Sound j
@@ -52,5 +55,7 @@ pub record Opened (j : Joint) : Type 0 where
   pub workers : j.workers ≡ map.empty
   pub ended : has_making j.daemon.tables.inodes ≡ false
   pub sides : EachRow j.sides (λ g s. let h = map.get j.history.groups g in SideOpened (committed_in h) (deleted_in h) s)
-  -- what hard deletes took are the entries that are being dropped; the content of a bitfile that no group has is free
+  -- contents are of bitfiles that were made; that of one that no group has is free
+  pub contents : EachRow j.history.contents (λ b bytes. IsGiven j.daemon.tables.site j.daemon.tables.counter b)
+  -- what hard deletes took are the entries that are being dropped
   pub taken : TakenKept j.daemon.tables.site j.daemon.tables.counter j.daemon.tables.entries j.history.taken

@@ -12,6 +12,7 @@ use Rattle.dm_durable.specs.declared.group.VolumeRow.{VolumeRow}
 use Rattle.dm_durable.specs.Limits.{IsVolumeSize, IsGroupNumber, IsPast}
 use Rattle.dm_durable.specs.Tables.{Named}
 use Rattle.dm_durable.specs.Volumes.{is_listed, tip_in}
+use Rattle.dm_model.specs.declared.state.Image.{Image}
 use Rattle.dm_invariant.specs.Among.{Among}
 
 -- a group's configuration: its number and the size of its volumes are within their limits, chunks have bytes, serial numbers
@@ -53,3 +54,15 @@ pub record VolumesKept (conf : GroupConf) (now : ℕ) (volumes : Named VolumeRow
   pub fits : ConfFits conf
   pub volume : EachRow volumes (VolumeKept conf tips now)
   pub slots : (v w : List ℕ) (x y : VolumeRow) → map.get volumes v ≡ Some x → map.get volumes w ≡ Some y → x.slot ≡ y.slot → v ≡ w
+
+-- ---- images
+
+-- a volume has an image of this size
+pub record HasImage (images : Named Image) (vsn : List ℕ) (size : ℕ) : Type 0 where
+  pub image : Image
+  pub is : map.get images vsn ≡ Some image
+  pub sized : image.size ≡ size
+
+-- each volume of the configuration has an image of the size that it is to have. A volume of the tables is one of these
+abbrev pub ImagesFit : GroupConf → Named Image → Type 0
+ImagesFit conf images = (vsn : List ℕ) → IsOfConf conf vsn → HasImage images vsn conf.size
