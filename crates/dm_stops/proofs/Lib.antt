@@ -1,0 +1,6 @@
+-- stops
+pub mod Restarted
+pub mod StopKept
+-- opened states
+pub mod OpenedKept
+pub mod EmptyOpened

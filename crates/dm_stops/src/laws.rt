@@ -1,0 +1,47 @@
+//! What is proved, as contracts of functions that do nothing.
+ghost use Rattle.std.specs.Prelude.{◌≡◌, ◌≤◌, ℕ, true, List};
+ghost use Rattle.dm_base.specs.declared.conf.DaemonConf.{DaemonConf};
+ghost use Rattle.dm_base.specs.declared.conf.GroupConf.{GroupConf};
+ghost use Rattle.dm_base.specs.declared.identifier.Secs.{Secs};
+ghost use Rattle.dm_durable.specs.declared.daemon.DaemonStep.TheVariants as record_step;
+ghost use Rattle.dm_durable.specs.declared.daemon.DaemonTables.{DaemonTables};
+ghost use Rattle.dm_durable.specs.Daemon.{after_record};
+ghost use Rattle.dm_durable.specs.DaemonConditions.{MayFollow};
+ghost use Rattle.dm_durable.specs.Inodes.{has_making};
+ghost use Rattle.dm_durable.specs.Tables.{Numbered};
+ghost use Rattle.dm_invariant.specs.Files.{DumpsKept, FilesKept};
+ghost use Rattle.dm_invariant.specs.Kept.{Kept};
+ghost use Rattle.dm_invariant.specs.Opened.{Opened};
+ghost use Rattle.dm_model.specs.declared.answer.Answer.{Answer};
+ghost use Rattle.dm_model.specs.declared.call.Event.TheVariants as event;
+ghost use Rattle.dm_model.specs.declared.state.Joint.{Joint};
+ghost use Rattle.dm_model.specs.Begin.{empty_joint};
+ghost use Rattle.dm_model.specs.Step.{Stepped, step};
+ghost use Rattle.dm_stops.specs.Closed.{Closed};
+ghost use Rattle.dm_stops.specs.FirstConf.{FirstConf};
+
+/// What is kept of a state is kept by a stop and the start after it, which may come at any moment: whatever is open then,
+/// and whichever steps are in doubt (docs/DEFINITIONS.md, "The invariant"). Nothing is open after it, and each put has ended.
+pub fn stop_keeps()
+    ensures kept { (j k : Joint) (w : ℕ) (a : Answer) → Kept j → step j w event.Stop ≡ Stepped k a → Kept k }
+    ensures closed { (j k : Joint) (w : ℕ) (a : Answer) → step j w event.Stop ≡ Stepped k a → Closed k }
+{}
+
+/// The record by which a start ends each put that had not ended may follow, where there is one; and it keeps files and dumps
+/// at any time that isn't past.
+pub fn restart_lands()
+    ensures follows { (t : DaemonTables) → has_making t.inodes ≡ true
+        → MayFollow t (record { time = t.time; step = record_step.Restart }) }
+    ensures files { (t : DaemonTables) (contents : Numbered (List ℕ)) (cap : ℕ) (time : Secs) → FilesKept t contents cap → t.time.0 ≤ time.0
+        → FilesKept (after_record t (record { time = time; step = record_step.Restart })) contents cap }
+    ensures dumps { (t : DaemonTables) (contents : Numbered (List ℕ)) (cap : ℕ) (time : Secs) → FilesKept t contents cap → t.time.0 ≤ time.0
+        → DumpsKept t.time.0 t.entries t.dumps
+        → let u = after_record t (record { time = time; step = record_step.Restart }) in DumpsKept time.0 u.entries u.dumps }
+{}
+
+/// An opened state, in which a run begins, has all that is kept along a run. The state before the first event is opened, where
+/// the configuration fits.
+pub fn opened_kept()
+    ensures kept { (j : Joint) → Opened j → Kept j }
+    ensures first { (conf : DaemonConf) (groups : List GroupConf) → FirstConf conf groups → Opened (empty_joint conf groups) }
+{}
