@@ -79,7 +79,7 @@ module _ {X : Type 0} (f : X → List ℕ) (P : X → Type 0) (once : IsSpelledO
       let next = next_item done v cur rest (let many = are.0 in omega arith) p are.1 (sym e ∙ spelled) in
       absent next.0 next.1 next.2 next.3
 
-all-push : {X : Type 0} (P : X → Type 0) (xs : List X) (x : X) → AllByRecursion P xs → P x → AllByRecursion P (xs ++ x ∷ [])
+pub all-push : {X : Type 0} (P : X → Type 0) (xs : List X) (x : X) → AllByRecursion P xs → P x → AllByRecursion P (xs ++ x ∷ [])
 all-push P [] x all p = (p, tt)
 all-push P (y ∷ xs) x all p = (all.0, all-push P xs x all.1 p)
 

@@ -1,4 +1,5 @@
 pub mod Bytes
+pub mod CopyForms
 pub mod Puts
 pub mod Absent
 pub mod Items

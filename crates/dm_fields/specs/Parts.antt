@@ -1,7 +1,7 @@
 -- The parts of rows: what files, dumps and bitfiles are spelled as in a checkpoint.
-use Rattle.std.specs.Prelude.{◌≡◌, ℕ, Bool, Option, None, Some, List, [], ◌∷◌, ◌++◌, length}
-use Rattle.std.specs.List.{flat_map}
-use Rattle.dm_durable.specs.Fields.{FitsContents, FitsDumpInode}
+use Rattle.std.specs.Prelude.{◌≡◌, ⊤, ℕ, Bool, Option, None, Some, Result, Ok, Err, List, [], ◌∷◌, ◌++◌, length}
+use Rattle.std.specs.List.{AllByRecursion, flat_map}
+use Rattle.dm_durable.specs.Fields.{IsByte, FitsContents, FitsDumpInode, FitsCopy}
 use Rattle.dm_durable.specs.declared.daemon.AskedCopy.{AskedCopy}
 use Rattle.dm_durable.specs.declared.daemon.Contents.{Contents}
 use Rattle.dm_durable.specs.declared.daemon.Contents.TheVariants.{Regular, Making, Dual, Offline}
@@ -10,6 +10,8 @@ use Rattle.dm_durable.specs.declared.daemon.DumpInode.TheVariants.{Kept, Named}
 use Rattle.dm_durable.specs.declared.daemon.Entry.{Entry}
 use Rattle.dm_fields.specs.Fields.{byte_field, flag_field, moment_field}
 use Rattle.dm_fields.specs.Numbers.{be64, be128}
+use Rattle.dm_fields.specs.declared.input.ReadError.{ReadError}
+use Rattle.dm_fields.specs.declared.input.ReadError.TheVariants.{Damaged, NoMemory}
 
 -- bytes behind their number in eight bytes
 abbrev pub long_content_field : List ℕ → List ℕ
@@ -62,6 +64,17 @@ copy_stored c = flag_field c.stored
 
 abbrev pub copies_field : List AskedCopy → List ℕ
 copies_field cs = length cs ∷ (flat_map copy_group cs ++ flat_map copy_stored cs)
+
+-- their number fits its byte, and so do their groups
+abbrev pub FitCopies : List AskedCopy → Type 0
+FitCopies cs = IsByte (length cs) × AllByRecursion FitsCopy cs
+
+-- The copies that these bytes are the groups and flags of. Where they are damaged, some byte is no flag; want of memory
+-- tells nothing.
+abbrev pub AreCopies : List ℕ → List ℕ → Result (List AskedCopy) ReadError → Type 0
+AreCopies groups flags (Ok cs) = (flat_map copy_group cs ≡ groups) × (flat_map copy_stored cs ≡ flags) × AllByRecursion FitsCopy cs
+AreCopies groups flags (Err Damaged) = (cs : List AskedCopy) → flat_map copy_stored cs ≡ flags → ⊥
+AreCopies groups flags (Err NoMemory) = ⊤
 
 abbrev pub entry_field : Entry → List ℕ
 entry_field e = be64 e.len ++ (copies_field e.copies ++ (moment_field e.gone ++ flag_field e.dropping))

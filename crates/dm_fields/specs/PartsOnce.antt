@@ -11,9 +11,10 @@ use Rattle.dm_durable.specs.declared.daemon.DumpInode.TheVariants.{Kept, Named}
 use Rattle.dm_durable.specs.declared.daemon.Entry.{Entry}
 use Rattle.dm_fields.specs.Fields.{byte_field, flag_field, moment_field}
 use Rattle.dm_fields.specs.Numbers.{big_endian, be64, be128}
-use Rattle.dm_fields.specs.Parts.{long_content_field, form_byte, form_fields, contents_field, keeping_byte, keeping_fields, dump_inode_field, copy_group, copy_stored, copies_field, entry_field}
+use Rattle.dm_fields.specs.Parts.{long_content_field, form_byte, form_fields, contents_field, keeping_byte, keeping_fields, dump_inode_field, copy_group, copy_stored, copies_field, FitCopies, entry_field}
 use Rattle.dm_fields.specs.Reading.{IsSpelledOnce}
 use Rattle.dm_fields.specs.Once.{front_once, number_once, text_once, byte_once, flag_once, pair_once, items_once, moment_once, bfid_once}
+use Rattle.dm_fields.specs.declared.copies.Copies.{Copies}
 use Rattle.dm_fields.specs.declared.texts.LongBytes.{LongBytes}
 
 pub long_content_once : IsSpelledOnce long_content_field (λ bytes. length bytes < 2 ^ 64)
@@ -89,7 +90,7 @@ same_copies (x ∷ xs) (y ∷ ys) r s same g e =
     let rest = same_copies xs ys r s (omega arith) group.1 stored.1 in
     (λ i. record { group = record { 0 = group.0 i }; stored = stored.0 i } ∷ rest.0 i, rest.1)
 
-length-groups : (xs : List AskedCopy) → length (flat_map copy_group xs) ≡ length xs
+pub length-groups : (xs : List AskedCopy) → length (flat_map copy_group xs) ≡ length xs
 length-groups [] = refl
 length-groups (x ∷ xs) = ap suc (length-groups xs)
 
@@ -99,6 +100,9 @@ copies_once x y r s p q e =
     let split = sym (append_assoc (flat_map copy_group x) (flat_map copy_stored x) r) ∙ count.1 ∙ append_assoc (flat_map copy_group y) (flat_map copy_stored y) s in
     let groups = front_once (flat_map copy_group x) (flat_map copy_group y) (flat_map copy_stored x ++ r) (flat_map copy_stored y ++ s) (length-groups x ∙ count.0 ∙ sym (length-groups y)) split in
     same_copies x y r s count.0 groups.0 groups.1
+
+pub wrapped_copies_once : IsSpelledOnce {X = Copies} (λ c. copies_field c.items) (λ c. FitCopies c.items)
+wrapped_copies_once x y r s p q e = let n = copies_once x.items y.items r s p q e in (λ i. record { items = n.0 i }, n.1)
 
 pub entry_once : IsSpelledOnce entry_field FitsEntry
 entry_once x y r s p q e =

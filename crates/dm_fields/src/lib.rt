@@ -9,6 +9,7 @@
 #![tactic(auto)]
 
 mod chunks;
+mod copies;
 mod field;
 mod input;
 mod lists;
@@ -19,6 +20,7 @@ mod scalars;
 mod texts;
 
 pub use chunks::{OldChunk, SUM_LENGTH};
+pub use copies::{Copies, CopiesOf};
 pub use field::{Field, Spelled};
 pub use input::{Input, ReadError};
 pub use lists::{ShortList, ShortListOf, items_len, put_items, read_items};

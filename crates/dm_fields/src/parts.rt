@@ -1,19 +1,14 @@
-//! The parts of rows: what a file holds, a file of a dump, and what is known of a bitfile.
+//! The parts of rows: what a file holds, and a file of a dump.
 
-ghost use Rattle.std.specs.Prelude.{◌≡◌, ◌<◌, ◌≤◌, ◌+◌, ◌^◌, length};
-ghost use Rattle.std.specs.List.{AllByRecursion, flat_map};
-ghost use Rattle.dm_durable.specs.Fields.{FitsCopy};
-ghost use Rattle.dm_fields.specs.Parts.{form_fields, IsOfForm, keeping_fields, IsOfKeeping, copy_group, copy_stored};
+ghost use Rattle.std.specs.Prelude.{◌≡◌};
+ghost use Rattle.dm_fields.specs.Parts.{form_fields, IsOfForm, keeping_fields, IsOfKeeping};
 ghost use Rattle.dm_fields.specs.Reading.{IsRead};
-ghost use Rattle.dm_fields.specs.Writing.{IsPut};
 
 use crate::field::{Field, Spelled};
 use crate::input::{Input, ReadError};
-use crate::lists::read_items;
-use crate::numbers::put_bytes;
 use crate::texts::{LongBytes, LongBytesOf};
-use dm_base::{Bfid, Bytes, GroupId, Listed, Secs};
-use dm_durable::{AskedCopy, Contents, DumpInode, Entry};
+use dm_base::Bfid;
+use dm_durable::{Contents, DumpInode};
 use std::alloc::Global;
 
 impl Spelled for Contents {

@@ -1,0 +1,7 @@
+use Rattle.dm_durable.specs.Fields.{FitsCopy}
+use Rattle.dm_fields.specs.Parts.{copy_stored}
+use Rattle.dm_fields.proofs.Items.{Writes}
+use Rattle.dm_fields.proofs.copies.put_flags.Given as goal
+
+abbrev pub invariant-loop-copy : goal.invariant-loop-copy
+invariant-loop-copy l = Writes copy_stored FitsCopy l.fn.copies l.copy-index l.fn.at l.end l.fn.out l.out
