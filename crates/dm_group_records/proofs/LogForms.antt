@@ -1,8 +1,8 @@
 -- Payloads of a log: what could not be read is none, and each tells what it is.
-use Rattle.std.proofs.Common.{◌≡◌, ◌≤◌, ◌<◌, ◌^◌, ℕ, suc, Option, None, Some, Err, Ok, Result, List, [], ◌∷◌, ◌++◌, length, refl, sym, ap, subst, ◌∙◌, arith, append_assoc}
+use Rattle.std.proofs.Common.{◌≡◌, ◌<◌, ◌^◌, ℕ, Some, Err, List, ◌++◌, length, refl, sym, ap, subst, ◌∙◌, arith, append_assoc}
 use Rattle.dm_base.specs.declared.identifier.GroupId.{GroupId}
 use Rattle.dm_base.specs.declared.identifier.Secs.{Secs}
-use Rattle.dm_durable.specs.Fields.{IsWord, IsByte, FitsGroupStep, FitsGroupPayload, IsOldStep}
+use Rattle.dm_durable.specs.Fields.{IsWord, IsByte, IsOldStep}
 use Rattle.dm_durable.specs.declared.group.GroupRecord.{GroupRecord}
 use Rattle.dm_durable.specs.declared.group.GroupStep.{GroupStep}
 use Rattle.dm_durable.specs.declared.group.GroupStep.TheVariants.{Volume, Commit, Delete, Move, Free, Reuse}
@@ -10,12 +10,12 @@ use Rattle.dm_durable.specs.declared.group_journal.GroupPayload.{GroupPayload}
 use Rattle.dm_durable.specs.declared.group_journal.GroupPayload.TheVariants.{Head, Record, OldRecord, Row}
 use Rattle.dm_fields.specs.Fields.{byte_field}
 use Rattle.dm_fields.specs.Numbers.{big_endian, be64}
-use Rattle.dm_fields.specs.Once.{length-behind, pair_once, number_once, secs_once, group_once, byte_once}
+use Rattle.dm_fields.specs.Once.{length-behind, pair_once, secs_once, group_once, byte_once}
 use Rattle.dm_fields.specs.Reading.{IsRead, IsSpelledOnce}
 use Rattle.dm_fields.specs.declared.input.ReadError.{ReadError}
 use Rattle.dm_fields.specs.declared.input.ReadError.TheVariants.{Damaged, NoMemory}
 use Rattle.dm_group_records.specs.OldSteps.{old_kind_of, old_byte, old_fields, IsOfOldKind}
-use Rattle.dm_group_records.specs.Payloads.{head_name, old_byte_if, payload_byte, payload_fields, spelling, IsOfLog, FitsLog, IsOfByte}
+use Rattle.dm_group_records.specs.Payloads.{head_name, old_byte_if, payload_byte, payload_fields, spelling, FitsLog, IsOfByte}
 use Rattle.dm_group_records.specs.Steps.{kind_of, step_byte, step_fields, IsOfKind}
 use Rattle.dm_group_records.specs.declared.kinds.StepKind.{StepKind}
 use Rattle.dm_group_records.specs.declared.kinds.OldKind.{OldKind}

@@ -1,24 +1,23 @@
 -- Steps as they were spelled before there were versions and sums.
-use Rattle.std.proofs.Common.{◌≡◌, ℕ, suc, Option, None, Some, Result, Ok, Err, List, [], ◌∷◌, ◌++◌, length, map, refl, sym, ap, subst, ◌∙◌, arith}
+use Rattle.std.proofs.Common.{◌≡◌, ℕ, suc, List, [], ◌∷◌, ◌++◌, length, map, refl, sym, ap, subst, ◌∙◌}
 use Rattle.std.specs.List.{AllByRecursion, flat_map}
 use Rattle.dm_base.specs.Naming.{IsSerial}
 use Rattle.dm_base.specs.declared.identifier.Bfid.{Bfid}
 use Rattle.dm_base.specs.declared.serial.Vsn.{Vsn}
 use Rattle.dm_base.specs.declared.volume.Chunk.{Chunk}
-use Rattle.dm_durable.specs.Fields.{IsByte, IsWord, IsIdentifier, IsCount, FitsChunk, HasNoSum, FitsGroupStep, IsOldStep}
+use Rattle.dm_durable.specs.Fields.{IsByte, IsWord, IsIdentifier, IsCount, FitsChunk, HasNoSum}
 use Rattle.dm_durable.specs.declared.group.GroupStep.{GroupStep}
 use Rattle.dm_durable.specs.declared.group.GroupStep.TheVariants.{Volume, Commit, Delete, Move, Free, Reuse}
-use Rattle.dm_fields.specs.Fields.{byte_field, chunk_field, longer_chunk_field, list_field}
+use Rattle.dm_fields.specs.Fields.{byte_field, chunk_field, list_field}
 use Rattle.dm_fields.specs.Numbers.{be32, be64}
-use Rattle.dm_fields.specs.Once.{pair_once, byte_once, number_once, bfid_once, vsn_once, chunk_once, old_chunk_once, list_once}
+use Rattle.dm_fields.specs.Once.{pair_once, bfid_once, vsn_once, old_chunk_once, list_once}
 use Rattle.dm_fields.specs.Reading.{IsSpelledOnce}
 use Rattle.dm_fields.specs.declared.chunks.OldChunk.{OldChunk}
 use Rattle.dm_rules.specs.Version.{first_version}
-use Rattle.dm_fields.specs.Reading.{IsRead}
 use Rattle.dm_group_records.specs.declared.kinds.OldKind.{OldKind}
 use Rattle.dm_group_records.specs.declared.kinds.OldKind.TheVariants as old
 use Rattle.dm_group_records.specs.Chunks.{chunk_of}
-use Rattle.dm_group_records.specs.OldSteps.{old_kind_of, old_fields, IsOfOldKind}
+use Rattle.dm_group_records.specs.OldSteps.{old_fields, IsOfOldKind}
 use Rattle.dm_group_records.specs.Steps.{bfid_field, serial_field}
 use Rattle.dm_group_records.proofs.StepOnce.{word_once, byte_field_once}
 
@@ -28,7 +27,7 @@ old_field c = chunk_field c.chunk
 abbrev pub FitsOld : OldChunk → Type 0
 FitsOld c = FitsChunk c.chunk × HasNoSum c.chunk
 
-abbrev old_of : Chunk → OldChunk
+abbrev pub old_of : Chunk → OldChunk
 old_of c = record { chunk = c }
 
 -- chunks and their old spellings
@@ -152,7 +151,7 @@ commit_read b len os cs bytes new same is =
 volume_once : IsSpelledOnce volume_spelling VolumeFits
 volume_once = pair_once serial_field (λ v. IsSerial v.0) (λ (t : ℕ × ℕ). byte_field t.0 ++ be64 t.1) (λ t. IsByte t.0 × IsWord t.1) vsn_once (pair_once byte_field IsByte be64 IsWord byte_field_once word_once)
 
-commit_once : IsSpelledOnce commit_spelling CommitFits
+pub commit_once : IsSpelledOnce commit_spelling CommitFits
 commit_once = pair_once bfid_field (λ b. IsIdentifier b.0) _ _ bfid_once (pair_once be64 IsWord (list_field old_field) (λ cs. IsCount (length cs) × AllByRecursion FitsOld cs) word_once (list_once old_field FitsOld old_chunk_once))
 
 move_once : IsSpelledOnce move_spelling MoveFits

@@ -1,5 +1,5 @@
 -- A step is its kind and its fields: what could not be read as the fields of a kind is no step of that kind.
-use Rattle.std.proofs.Common.{◌≡◌, ◌≤◌, ℕ, Bool, Result, Ok, Err, Option, None, Some, List, ◌++◌, refl, sym, ap, subst, ◌∙◌, arith, cond, nat_eq}
+use Rattle.std.proofs.Common.{◌≡◌, ℕ, Err, List, ◌++◌, refl, ap, subst, ◌∙◌}
 use Rattle.dm_base.specs.declared.identifier.Bfid.{Bfid}
 use Rattle.dm_base.specs.declared.serial.Vsn.{Vsn}
 use Rattle.dm_base.specs.declared.volume.Chunk.{Chunk}
@@ -11,7 +11,7 @@ use Rattle.dm_fields.specs.declared.input.ReadError.{ReadError}
 use Rattle.dm_fields.specs.declared.input.ReadError.TheVariants.{Damaged, NoMemory}
 use Rattle.dm_group_records.specs.declared.kinds.StepKind.{StepKind}
 use Rattle.dm_group_records.specs.declared.kinds.StepKind.TheVariants as kind
-use Rattle.dm_group_records.specs.Steps.{kind_of, step_byte, step_fields, IsOfKind}
+use Rattle.dm_group_records.specs.Steps.{kind_of, step_fields, IsOfKind}
 
 -- what the records of a kind have
 abbrev pub FieldsOf : StepKind → Type 0

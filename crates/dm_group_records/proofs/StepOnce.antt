@@ -1,18 +1,13 @@
 -- A step's fields tell the step, where its kind is known.
-use Rattle.std.proofs.Common.{◌≡◌, ℕ, Option, None, Some, Result, Ok, Err, List, [], ◌∷◌, ◌++◌, length, map, refl, sym, ap, subst, ◌∙◌, arith}
-use Rattle.std.specs.List.{AllByRecursion, flat_map}
+use Rattle.std.proofs.Common.{◌≡◌, ℕ, List, ◌++◌, length, refl, sym, ap, subst, ◌∙◌}
+use Rattle.std.specs.List.{AllByRecursion}
 use Rattle.dm_base.specs.Naming.{IsSerial}
-use Rattle.dm_base.specs.declared.identifier.Bfid.{Bfid}
-use Rattle.dm_base.specs.declared.serial.Vsn.{Vsn}
-use Rattle.dm_base.specs.declared.volume.Chunk.{Chunk}
-use Rattle.dm_durable.specs.Fields.{IsByte, IsWord, IsIdentifier, IsCount, FitsChunk, HasNoSum, FitsGroupStep, IsOldStep}
+use Rattle.dm_durable.specs.Fields.{IsByte, IsWord, IsIdentifier, IsCount, FitsChunk, FitsGroupStep}
 use Rattle.dm_durable.specs.declared.group.GroupStep.{GroupStep}
-use Rattle.dm_durable.specs.declared.group.GroupStep.TheVariants.{Volume, Commit, Delete, Move, Free, Reuse}
-use Rattle.dm_fields.specs.Fields.{byte_field, chunk_field, longer_chunk_field, list_field}
+use Rattle.dm_fields.specs.Fields.{byte_field, longer_chunk_field, list_field}
 use Rattle.dm_fields.specs.Numbers.{be64}
-use Rattle.dm_fields.specs.Once.{pair_once, byte_once, number_once, bfid_once, vsn_once, chunk_once, old_chunk_once, list_once}
+use Rattle.dm_fields.specs.Once.{pair_once, byte_once, number_once, bfid_once, vsn_once, chunk_once, list_once}
 use Rattle.dm_fields.specs.Reading.{IsSpelledOnce}
-use Rattle.dm_fields.specs.declared.chunks.OldChunk.{OldChunk}
 use Rattle.dm_group_records.specs.declared.kinds.StepKind.{StepKind}
 use Rattle.dm_group_records.specs.declared.kinds.StepKind.TheVariants as kind
 use Rattle.dm_group_records.specs.Steps.{kind_of, step_fields, bfid_field, serial_field}

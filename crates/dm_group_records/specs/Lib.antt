@@ -3,3 +3,4 @@ pub mod OldSteps
 pub mod Chunks
 pub mod Rows
 pub mod Payloads
+pub mod Limits

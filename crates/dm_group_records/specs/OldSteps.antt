@@ -1,7 +1,5 @@
 -- What the records were spelled as before there were versions and sums. Volumes have version 1, and chunks no sum.
-use Rattle.std.specs.Prelude.{◌≡◌, Option, None, Some, ℕ, List, [], ◌∷◌, ◌++◌}
-use Rattle.dm_base.specs.declared.identifier.Bfid.{Bfid}
-use Rattle.dm_base.specs.declared.serial.Vsn.{Vsn}
+use Rattle.std.specs.Prelude.{◌≡◌, Option, None, Some, ℕ, List, [], ◌++◌}
 use Rattle.dm_durable.specs.declared.group.GroupStep.{GroupStep}
 use Rattle.dm_durable.specs.declared.group.GroupStep.TheVariants.{Volume, Commit, Delete, Move, Free, Reuse}
 use Rattle.dm_durable.specs.Fields.{FitsGroupStep, IsOldStep}

@@ -1,5 +1,5 @@
 -- What each payload of a group's journal is spelled as.
-use Rattle.std.specs.Prelude.{◌≡◌, ⊤, ℕ, Option, None, Some, List, [], ◌∷◌, ◌++◌, Result, Ok, Err}
+use Rattle.std.specs.Prelude.{◌≡◌, ⊤, ℕ, Option, None, Some, List, [], ◌∷◌, ◌++◌}
 use Rattle.dm_durable.specs.Fields.{FitsGroupPayload}
 use Rattle.dm_durable.specs.declared.group_journal.GroupPayload.{GroupPayload}
 use Rattle.dm_durable.specs.declared.group_journal.GroupPayload.TheVariants.{Head, Record, OldRecord, Row}

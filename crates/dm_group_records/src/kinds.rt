@@ -1,11 +1,27 @@
 //! The kinds of a group's records, each with its byte: which are written and which are only read is said here.
 //!
 //! `StepKind` has those that are written. `OldKind` has those of programs that knew volumes of version 1 alone; they are
-//! read, and never written. A delete and a free were spelled in those days as they are now.
+//! read, and never written. A delete and a free were spelled in those days as they are now. Of the rows of a checkpoint
+//! a state, a volume and a bitfile are written; those of a volume and of a bitfile of old are read, and never written.
 
 ghost use Rattle.std.specs.Prelude.{◌≡◌, MatchOption};
 ghost use Rattle.dm_group_records.specs.Steps.{step_byte};
 ghost use Rattle.dm_group_records.specs.OldSteps.{old_byte};
+
+/// The kind of the row of a state.
+pub(crate) const STATE_ROW: u8 = 40;
+
+/// The kind of the row of a volume before there were versions.
+pub(crate) const OLD_VOLUME_ROW: u8 = 41;
+
+/// The kind of the row of a bitfile before there were sums.
+pub(crate) const OLD_BITFILE_ROW: u8 = 42;
+
+/// The kind of the row of a volume.
+pub(crate) const VOLUME_ROW: u8 = 43;
+
+/// The kind of the row of a bitfile.
+pub(crate) const BITFILE_ROW: u8 = 44;
 
 /// The kind of a record.
 #[derive(Clone, Copy, Debug, PartialEq, Eq)]

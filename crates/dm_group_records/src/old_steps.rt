@@ -12,7 +12,7 @@ use dm_fields::{Field, Input, OldChunk, ReadError};
 use std::alloc::Global;
 
 /// The only version of volumes in those days.
-const FIRST_VERSION: u8 = 1;
+pub(crate) const FIRST_VERSION: u8 = 1;
 
 /// Reads the fields of a record of this kind.
 pub fn read_old_fields(

@@ -1,4 +1,4 @@
-use Rattle.dm_group_records.proofs.LogForms.{no_old_fields, no_old_time, old_read}
+use Rattle.dm_group_records.proofs.LogForms.{no_old_fields, no_old_time}
 use Rattle.dm_group_records.proofs.logs.read_old_record.Goals as goal
 
 pub returns-in-Err : goal.returns-in-Err

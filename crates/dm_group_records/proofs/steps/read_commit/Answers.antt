@@ -1,7 +1,6 @@
 use Rattle.std.specs.List.{AllByRecursion}
 use Rattle.std.proofs.Common.{refl, length}
-use Rattle.dm_base.specs.Naming.{IsSerial}
-use Rattle.dm_durable.specs.Fields.{IsByte, IsWord, IsIdentifier, IsCount, FitsChunk}
+use Rattle.dm_durable.specs.Fields.{IsWord, IsIdentifier, IsCount, FitsChunk}
 use Rattle.dm_group_records.specs.declared.kinds.StepKind.TheVariants.{Commit}
 use Rattle.dm_group_records.proofs.StepForms.{no_step}
 use Rattle.dm_group_records.proofs.steps.read_commit.Goals as goal
