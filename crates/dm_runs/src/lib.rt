@@ -1,0 +1,9 @@
+//! The laws over whole runs: what holds after each legal run from an opened state.
+//!
+//! The induction itself knows no event: it takes what each event keeps from the crates below. Each law is the contract of a
+//! function that does nothing, and its lemmas stand in `proofs/`.
+#![tactic(auto)]
+
+mod laws;
+
+pub use laws::{images_kept, plain_kept, sound_kept};
