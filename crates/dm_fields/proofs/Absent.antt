@@ -1,5 +1,5 @@
 -- Why bytes that could not be read have no spelling.
-use Rattle.std.proofs.Common.{◌≡◌, Bool, true, false, Option, None, Some, Err, ℕ, suc, ◌+◌, ◌<◌, ◌^◌, List, [], ◌∷◌, ◌++◌, length, refl, sym, ap, ◌∙◌, arith, append_assoc, length-append}
+use Rattle.std.proofs.Common.{◌≡◌, Bool, true, false, Option, None, Some, Err, ℕ, ◌+◌, ◌<◌, ◌^◌, List, ◌∷◌, ◌++◌, length, refl, sym, ap, ◌∙◌, arith, append_assoc, length-append}
 use Rattle.std.specs.Prelude.{⊤}
 use Rattle.dm_base.specs.declared.identifier.Secs.{Secs}
 use Rattle.dm_durable.specs.Fields.{IsTimeOrNone, IsSumOrNone}

@@ -1,8 +1,8 @@
 -- Numbers of so many bytes: the bytes that were read as a number are its spelling.
-use Rattle.std.proofs.Common.{◌≡◌, ℕ, suc, zero, ◌+◌, ◌*◌, ◌/◌, ◌%◌, ◌^◌, ◌<◌, List, [], ◌∷◌, ◌++◌, length, get_or, refl, sym, ap, ◌∙◌, arith}
+use Rattle.std.proofs.Common.{◌≡◌, ℕ, suc, zero, ◌+◌, ◌*◌, ◌/◌, ◌%◌, ◌^◌, ◌<◌, List, [], ◌∷◌, length, get_or, refl, sym, ap, ◌∙◌, arith}
 use Rattle.std.specs.Int.{bytes_high_first, byte_at}
 use Rattle.std.proofs.lemmas.Nat.{div-mul-add}
-use Rattle.std.proofs.Math.Nat.{div-div-eq-div-mul, mul-add-div_right, mul-add-mod_self_left, mod-eq_of_lt, pow-succ', div-one, one-le-pow}
+use Rattle.std.proofs.Math.Nat.{mul-add-div_right, mul-add-mod_self_left, mod-eq_of_lt, pow-succ', div-one, one-le-pow}
 use Rattle.byteorder.specs.Numbers.{big_from-cons, big_from-lt}
 use Rattle.byteorder.specs.Endian.{big_from}
 use Rattle.dm_fields.specs.Numbers.{big_endian}

@@ -1,5 +1,5 @@
 -- Parts of rows that could not be read: the fields of each form.
-use Rattle.std.proofs.Common.{◌≡◌, ℕ, ◌+◌, ◌<◌, ◌^◌, Err, List, ◌++◌, length, refl, sym, ap, ◌∙◌, arith, append_assoc}
+use Rattle.std.proofs.Common.{◌≡◌, ℕ, ◌<◌, ◌^◌, Err, List, ◌++◌, length, refl, sym, ap, ◌∙◌, arith, append_assoc}
 use Rattle.dm_base.specs.declared.identifier.Bfid.{Bfid}
 use Rattle.dm_durable.specs.declared.daemon.Contents.{Contents}
 use Rattle.dm_durable.specs.declared.daemon.Contents.TheVariants.{Regular, Making, Dual, Offline}

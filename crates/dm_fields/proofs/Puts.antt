@@ -1,5 +1,5 @@
 -- What was written, one spelling behind another.
-use Rattle.std.proofs.Common.{◌≡◌, ℕ, ◌+◌, ◌≤◌, List, [], ◌++◌, length, take, refl, sym, ap, subst, ◌∙◌, arith, append_assoc, length-append}
+use Rattle.std.proofs.Common.{ℕ, List, ◌++◌, take, ap, ◌∙◌, arith, append_assoc, length-append}
 use Rattle.dm_fields.specs.Writing.{IsPut}
 
 pub put_both : (a b : List ℕ) (at middle end : ℕ) (old between new : List ℕ) → IsPut a at old between middle → IsPut b middle between new end → IsPut (a ++ b) at old new end

@@ -1,5 +1,5 @@
 -- Values behind a byte that says which kind they are of.
-use Rattle.std.proofs.Common.{◌≡◌, ◌<◌, ◌^◌, ℕ, Result, Ok, Err, List, [], ◌∷◌, ◌++◌, sym, ap, ◌∙◌}
+use Rattle.std.proofs.Common.{◌≡◌, ◌<◌, ◌^◌, ℕ, Result, Ok, Err, List, [], ◌∷◌, ◌++◌, sym, ◌∙◌}
 use Rattle.dm_fields.specs.Once.{byte_once}
 use Rattle.dm_fields.specs.Reading.{IsRead}
 use Rattle.dm_fields.specs.declared.input.ReadError.{ReadError}

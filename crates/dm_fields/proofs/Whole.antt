@@ -1,5 +1,5 @@
 -- A value at the front of bytes, and what is left of them.
-use Rattle.std.proofs.Common.{◌≡◌, ℕ, Err, Ok, List, [], ◌++◌, sym, ap, ◌∙◌}
+use Rattle.std.proofs.Common.{◌≡◌, ℕ, Err, List, [], ◌++◌, sym, ◌∙◌}
 use Rattle.std.proofs.lemmas.List.{append-nil}
 use Rattle.dm_fields.specs.Reading.{IsRead, IsSpelledOnce}
 use Rattle.dm_fields.specs.Whole.{IsWholeRead}

@@ -3,7 +3,7 @@ use Rattle.std.specs.Prelude.{ℕ, Bool, cond, Option, None, Some, List, [], ◌
 use Rattle.std.specs.List.{flat_map}
 use Rattle.dm_base.specs.declared.identifier.Secs.{Secs}
 use Rattle.dm_base.specs.declared.volume.Chunk.{Chunk}
-use Rattle.dm_fields.specs.Numbers.{be16, be32, be64, be128}
+use Rattle.dm_fields.specs.Numbers.{be16, be32, be64}
 
 -- a byte, as a kind, a group, a slot or a version
 abbrev pub byte_field : ℕ → List ℕ

@@ -1,7 +1,6 @@
 -- Spellings tell what they are of: numbers, texts behind their lengths, and one field behind another.
-use Rattle.std.proofs.Common.{◌≡◌, None, Some, Bool, true, false, ℕ, suc, zero, ◌+◌, ◌<◌, ◌^◌, List, [], ◌∷◌, ◌++◌, length, take, drop, refl, sym, ap, subst, ◌∙◌, arith, append_assoc, length-append}
+use Rattle.std.proofs.Common.{◌≡◌, None, Some, Bool, true, false, ℕ, ◌+◌, ◌<◌, ◌^◌, List, [], ◌∷◌, ◌++◌, length, refl, sym, ap, ◌∙◌, arith, append_assoc, length-append}
 use Rattle.std.specs.List.{AllByRecursion, flat_map}
-use Rattle.std.specs.Int.{bytes_high_first}
 use Rattle.byteorder.specs.Numbers.{big_number-reads_back, length-bytes_high_first}
 use Rattle.byteorder.specs.Endian.{big_from}
 use Rattle.dm_base.specs.Naming.{IsPath, IsDumpName, IsSerial}

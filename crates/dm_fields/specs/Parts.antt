@@ -1,5 +1,5 @@
 -- The parts of rows: what files, dumps and bitfiles are spelled as in a checkpoint.
-use Rattle.std.specs.Prelude.{◌≡◌, ⊤, ℕ, Bool, Option, None, Some, Result, Ok, Err, List, [], ◌∷◌, ◌++◌, length}
+use Rattle.std.specs.Prelude.{◌≡◌, ⊤, ℕ, Result, Ok, Err, List, ◌∷◌, ◌++◌, length}
 use Rattle.std.specs.List.{AllByRecursion, flat_map}
 use Rattle.dm_durable.specs.Fields.{IsByte, FitsContents, FitsDumpInode, FitsCopy}
 use Rattle.dm_durable.specs.declared.daemon.AskedCopy.{AskedCopy}

@@ -1,19 +1,16 @@
 -- The parts of rows tell what they are of.
-use Rattle.std.proofs.Common.{◌≡◌, None, Some, Bool, ℕ, suc, zero, ◌+◌, ◌<◌, ◌^◌, List, [], ◌∷◌, ◌++◌, length, refl, sym, ap, ◌∙◌, arith, append_assoc}
+use Rattle.std.proofs.Common.{◌≡◌, Bool, ℕ, suc, ◌<◌, ◌^◌, List, [], ◌∷◌, ◌++◌, length, refl, sym, ap, ◌∙◌, arith, append_assoc}
 use Rattle.std.specs.List.{AllByRecursion, flat_map}
 use Rattle.dm_base.specs.declared.identifier.Bfid.{Bfid}
 use Rattle.dm_durable.specs.Fields.{FitsContents, FitsDumpInode, FitsEntry, FitsCopy, IsTimeOrNone}
 use Rattle.dm_durable.specs.declared.daemon.AskedCopy.{AskedCopy}
-use Rattle.dm_durable.specs.declared.daemon.Contents.{Contents}
 use Rattle.dm_durable.specs.declared.daemon.Contents.TheVariants.{Regular, Making, Dual, Offline}
-use Rattle.dm_durable.specs.declared.daemon.DumpInode.{DumpInode}
 use Rattle.dm_durable.specs.declared.daemon.DumpInode.TheVariants.{Kept, Named}
-use Rattle.dm_durable.specs.declared.daemon.Entry.{Entry}
-use Rattle.dm_fields.specs.Fields.{byte_field, flag_field, moment_field}
-use Rattle.dm_fields.specs.Numbers.{big_endian, be64, be128}
-use Rattle.dm_fields.specs.Parts.{long_content_field, form_byte, form_fields, contents_field, keeping_byte, keeping_fields, dump_inode_field, copy_group, copy_stored, copies_field, FitCopies, entry_field}
+use Rattle.dm_fields.specs.Fields.{flag_field, moment_field}
+use Rattle.dm_fields.specs.Numbers.{be64, be128}
+use Rattle.dm_fields.specs.Parts.{long_content_field, contents_field, dump_inode_field, copy_group, copy_stored, copies_field, FitCopies, entry_field}
 use Rattle.dm_fields.specs.Reading.{IsSpelledOnce}
-use Rattle.dm_fields.specs.Once.{front_once, number_once, text_once, byte_once, flag_once, pair_once, items_once, moment_once, bfid_once}
+use Rattle.dm_fields.specs.Once.{front_once, number_once, text_once, byte_once, flag_once, pair_once, moment_once, bfid_once}
 use Rattle.dm_fields.specs.declared.copies.Copies.{Copies}
 use Rattle.dm_fields.specs.declared.texts.LongBytes.{LongBytes}
 

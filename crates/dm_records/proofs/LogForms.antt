@@ -1,39 +1,24 @@
 -- Payloads of a log: what could not be read is none, and each tells what it is.
-use Rattle.std.proofs.Common.{◌≡◌, ◌≤◌, ◌<◌, ◌^◌, ℕ, Err, Ok, Result, List, [], ◌∷◌, ◌++◌, length, refl, sym, ap, subst, ◌∙◌, arith, append_assoc}
+use Rattle.std.proofs.Common.{◌≡◌, ◌<◌, ◌^◌, ℕ, Err, List, ◌∷◌, ◌++◌, length, refl, sym, ap, ◌∙◌, arith, append_assoc}
 use Rattle.dm_base.specs.declared.identifier.Secs.{Secs}
-use Rattle.dm_durable.specs.Fields.{IsWord, FitsStep, FitsPayload}
+use Rattle.dm_durable.specs.Fields.{IsWord, FitsPayload}
 use Rattle.dm_durable.specs.declared.daemon.DaemonRecord.{DaemonRecord}
 use Rattle.dm_durable.specs.declared.daemon_journal.DaemonHead.{DaemonHead}
 use Rattle.dm_durable.specs.declared.daemon_journal.DaemonPayload.{DaemonPayload}
 use Rattle.dm_durable.specs.declared.daemon_journal.DaemonPayload.TheVariants.{Head, Record, Upgrade, Row}
 use Rattle.dm_durable.specs.declared.daemon_journal.JournalVersion.{JournalVersion}
-use Rattle.dm_durable.specs.declared.daemon_journal.JournalVersion.TheVariants.{First, Second}
-use Rattle.dm_fields.specs.Numbers.{big_endian, be64}
+use Rattle.dm_fields.specs.Numbers.{be64}
 use Rattle.dm_fields.specs.Once.{length-behind, length-big_endian, pair_once, number_once, secs_once, byte_once}
 use Rattle.dm_fields.specs.Reading.{IsRead, IsSpelledOnce}
 use Rattle.dm_fields.specs.declared.input.ReadError.{ReadError}
 use Rattle.dm_fields.specs.declared.input.ReadError.TheVariants.{Damaged, NoMemory}
-use Rattle.dm_records.specs.Payloads.{payload_byte, payload_fields, spelling, IsOfLog, FitsLog, IsOfByte}
-use Rattle.dm_records.specs.Rows.{head_name, name_number}
+use Rattle.dm_records.specs.Payloads.{payload_byte, payload_fields, spelling, FitsLog, IsOfByte}
+use Rattle.dm_records.specs.Names.{name_number}
 use Rattle.dm_records.specs.Steps.{kind_of, step_byte, step_fields, IsOfKind}
 use Rattle.dm_records.specs.declared.kinds.StepKind.{StepKind}
+use Rattle.dm_records.proofs.NameForms.{name-number, one_version, name_small}
 use Rattle.dm_records.proofs.StepForms.{step_range, one_kind}
 use Rattle.dm_records.proofs.StepOnce.{step_once}
-
-pub name-number : (v : JournalVersion) → head_name v ≡ be64 (name_number v)
-unfolding big_endian
-name-number First = refl
-name-number Second = refl
-
-pub one_version : (v w : JournalVersion) → name_number v ≡ name_number w → v ≡ w
-one_version First First e = refl
-one_version First Second e = absurd (omega arith)
-one_version Second First e = absurd (omega arith)
-one_version Second Second e = refl
-
-name_small : (v : JournalVersion) → name_number v < 2 ^ 64
-name_small First = omega arith
-name_small Second = omega arith
 
 -- ---- heads
 

@@ -1,5 +1,5 @@
 -- A step is its kind and its fields: what could not be read as the fields of a kind is no step of that kind.
-use Rattle.std.proofs.Common.{◌≡◌, ◌≤◌, ℕ, Bool, Result, Ok, Err, Option, None, Some, List, ◌++◌, refl, sym, ap, subst, ◌∙◌, arith, cond, nat_eq}
+use Rattle.std.proofs.Common.{◌≡◌, ◌≤◌, ℕ, Bool, Err, Option, None, Some, List, ◌++◌, refl, sym, ap, subst, ◌∙◌, arith, cond, nat_eq}
 use Rattle.dm_base.specs.declared.identifier.Bfid.{Bfid}
 use Rattle.dm_base.specs.declared.identifier.GroupId.{GroupId}
 use Rattle.dm_base.specs.declared.identifier.Ino.{Ino}

@@ -1,10 +1,11 @@
 -- What each payload of the daemon's journal is spelled as.
-use Rattle.std.specs.Prelude.{◌≡◌, ⊤, ℕ, List, [], ◌∷◌, ◌++◌}
+use Rattle.std.specs.Prelude.{◌≡◌, ⊤, ℕ, List, ◌∷◌, ◌++◌}
 use Rattle.dm_durable.specs.Fields.{FitsPayload}
 use Rattle.dm_durable.specs.declared.daemon_journal.DaemonPayload.{DaemonPayload}
 use Rattle.dm_durable.specs.declared.daemon_journal.DaemonPayload.TheVariants.{Head, Record, Upgrade, Row}
 use Rattle.dm_fields.specs.Numbers.{be64}
-use Rattle.dm_records.specs.Rows.{head_name, row_byte, row_fields}
+use Rattle.dm_records.specs.Names.{head_name}
+use Rattle.dm_records.specs.Rows.{row_byte, row_fields}
 use Rattle.dm_records.specs.Steps.{kind_of, step_byte, step_fields}
 
 -- its kind

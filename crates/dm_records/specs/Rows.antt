@@ -1,31 +1,38 @@
 -- What each row of a checkpoint of the daemon is spelled as: its kind in one byte, and these fields.
-use Rattle.std.specs.Prelude.{ℕ, List, [], ◌∷◌, ◌++◌}
+use Rattle.std.specs.Prelude.{◌≡◌, ℕ, List, ◌∷◌, ◌++◌}
+use Rattle.dm_durable.specs.Fields.{FitsRow}
 use Rattle.dm_durable.specs.declared.daemon_journal.DaemonRow.{DaemonRow}
 use Rattle.dm_durable.specs.declared.daemon_journal.DaemonRow.TheVariants.{State, OldState, File, Bitfile, Dump, OldDump, DumpFile}
-use Rattle.dm_durable.specs.declared.daemon_journal.JournalVersion.{JournalVersion}
 use Rattle.dm_durable.specs.declared.daemon_journal.JournalVersion.TheVariants.{First, Second}
 use Rattle.dm_fields.specs.Fields.{path_field, name_field}
 use Rattle.dm_fields.specs.Numbers.{be64, be128}
 use Rattle.dm_fields.specs.Parts.{contents_field, entry_field, dump_inode_field}
+use Rattle.dm_records.specs.Names.{head_name}
+use Rattle.dm_records.specs.declared.kinds.RowKind.{RowKind}
+use Rattle.dm_records.specs.declared.kinds.RowKind.TheVariants as kind
 
--- `DMDAEMN1` or `DMDAEMN2`
-abbrev pub head_name : JournalVersion → List ℕ
-head_name First = 68 ∷ 77 ∷ 68 ∷ 65 ∷ 69 ∷ 77 ∷ 78 ∷ (49 ∷ [])
-head_name Second = 68 ∷ 77 ∷ 68 ∷ 65 ∷ 69 ∷ 77 ∷ 78 ∷ (50 ∷ [])
+-- the kind of a row
+abbrev pub row_kind : DaemonRow → RowKind
+row_kind (State time change counter site first begun_age age) = kind.State
+row_kind (OldState time change counter site first age) = kind.OldState
+row_kind (File path n inode) = kind.File
+row_kind (Bitfile b entry) = kind.Bitfile
+row_kind (Dump name made least) = kind.Dump
+row_kind (OldDump name made) = kind.OldDump
+row_kind (DumpFile name path file) = kind.DumpFile
 
--- the same eight bytes as a number
-abbrev pub name_number : JournalVersion → ℕ
-name_number First = 4921665014912077361
-name_number Second = 4921665014912077362
+-- the byte of a kind
+abbrev pub row_kind_byte : RowKind → ℕ
+row_kind_byte kind.OldState = 32
+row_kind_byte kind.File = 33
+row_kind_byte kind.Bitfile = 34
+row_kind_byte kind.OldDump = 35
+row_kind_byte kind.DumpFile = 36
+row_kind_byte kind.State = 37
+row_kind_byte kind.Dump = 38
 
 abbrev pub row_byte : DaemonRow → ℕ
-row_byte (State time change counter site first begun_age age) = 37
-row_byte (OldState time change counter site first age) = 32
-row_byte (File path n inode) = 33
-row_byte (Bitfile b entry) = 34
-row_byte (Dump name made least) = 38
-row_byte (OldDump name made) = 35
-row_byte (DumpFile name path file) = 36
+row_byte r = row_kind_byte (row_kind r)
 
 abbrev pub row_fields : DaemonRow → List ℕ
 row_fields (State time change counter site first begun_age age) =
@@ -37,3 +44,13 @@ row_fields (Bitfile b entry) = be128 b.0 ++ entry_field entry
 row_fields (Dump name made least) = name_field name ++ (be64 made.0 ++ be64 least)
 row_fields (OldDump name made) = name_field name ++ be64 made.0
 row_fields (DumpFile name path file) = name_field name ++ (path_field path ++ dump_inode_field file)
+
+abbrev pub row_spelling : DaemonRow → List ℕ
+row_spelling r = row_byte r ∷ row_fields r
+
+-- a row of this kind, whose fields fit
+abbrev pub IsOfRow : RowKind → DaemonRow → Type 0
+IsOfRow k r = (row_kind r ≡ k) × FitsRow r
+
+abbrev pub IsOfRowByte : ℕ → DaemonRow → Type 0
+IsOfRowByte n r = (row_byte r ≡ n) × FitsRow r

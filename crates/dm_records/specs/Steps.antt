@@ -1,5 +1,5 @@
 -- What each record of the daemon is spelled as: its kind in one byte, the time after it in eight, and these fields.
-use Rattle.std.specs.Prelude.{◌≡◌, ℕ, List, [], ◌∷◌, ◌++◌}
+use Rattle.std.specs.Prelude.{◌≡◌, ℕ, List, [], ◌++◌}
 use Rattle.dm_base.specs.declared.identifier.Bfid.{Bfid}
 use Rattle.dm_base.specs.declared.identifier.GroupId.{GroupId}
 use Rattle.dm_durable.specs.declared.daemon.DaemonStep.{DaemonStep}

@@ -4,6 +4,7 @@
 //! journals that an older program began, and `Upgrade` is written once where such a journal goes on.
 
 ghost use Rattle.std.specs.Prelude.{◌≡◌, MatchOption, ℕ};
+ghost use Rattle.dm_records.specs.Rows.{row_kind_byte};
 ghost use Rattle.dm_records.specs.Steps.{step_byte};
 
 /// The kind of a record.
@@ -67,6 +68,53 @@ impl StepKind {
             13 => Some(StepKind::Dropped),
             14 => Some(StepKind::Restart),
             15 => Some(StepKind::Age),
+            _ => None,
+        }
+    }
+}
+
+/// The kind of a row of a checkpoint.
+#[derive(Clone, Copy, Debug, PartialEq, Eq)]
+pub enum RowKind {
+    /// Of version 1, and only read.
+    OldState,
+    File,
+    Bitfile,
+    /// Of version 1, and only read.
+    OldDump,
+    DumpFile,
+    State,
+    Dump,
+}
+
+impl RowKind {
+    /// The byte of the kind.
+    pub fn byte(self) -> u8
+        ensures { result ≡ row_kind_byte self }
+    {
+        match self {
+            RowKind::OldState => 32,
+            RowKind::File => 33,
+            RowKind::Bitfile => 34,
+            RowKind::OldDump => 35,
+            RowKind::DumpFile => 36,
+            RowKind::State => 37,
+            RowKind::Dump => 38,
+        }
+    }
+
+    /// The kind of a byte, or none where it is no row's.
+    pub fn of_byte(byte: u8) -> Option<RowKind>
+        ensures { MatchOption result ((kind : RowKind) → row_kind_byte kind ≡ byte → ⊥) (λ kind. row_kind_byte kind ≡ byte) }
+    {
+        match byte {
+            32 => Some(RowKind::OldState),
+            33 => Some(RowKind::File),
+            34 => Some(RowKind::Bitfile),
+            35 => Some(RowKind::OldDump),
+            36 => Some(RowKind::DumpFile),
+            37 => Some(RowKind::State),
+            38 => Some(RowKind::Dump),
             _ => None,
         }
     }

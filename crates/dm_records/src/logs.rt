@@ -9,9 +9,10 @@ ghost use Rattle.dm_fields.specs.Whole.{IsWholeRead};
 ghost use Rattle.dm_fields.specs.Writing.{IsPut};
 ghost use Rattle.dm_records.specs.Payloads.{spelling, payload_fields, IsOfByte, FitsLog};
 ghost use Rattle.dm_records.specs.Steps.{step_byte};
-ghost use Rattle.dm_records.specs.Rows.{name_number};
+ghost use Rattle.dm_records.specs.Names.{name_number};
 
 use crate::kinds::StepKind;
+use crate::names::{FIRST_NAME, SECOND_NAME};
 use crate::steps::{fields_len, kind_of, put_fields, read_fields};
 use dm_base::Secs;
 use dm_durable::{DaemonHead, DaemonPayload, DaemonRecord, JournalVersion};
@@ -41,11 +42,6 @@ pub fn put_record(record: &DaemonRecord, out: &mut [u8], at: usize) -> usize
     let behind = (kind_of(&record.step).byte(), record.time).put(out, at);
     put_fields(&record.step, out, behind)
 }
-
-// `DMDAEMN1` and `DMDAEMN2`, each the eight bytes of a number.
-const FIRST_NAME: u64 = 0x444d_4441_454d_4e31;
-
-const SECOND_NAME: u64 = 0x444d_4441_454d_4e32;
 
 // The name of a version.
 fn name_of(version: JournalVersion) -> u64

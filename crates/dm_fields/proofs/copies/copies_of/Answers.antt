@@ -1,4 +1,4 @@
-use Rattle.std.proofs.Common.{◌<◌, length, subst}
+use Rattle.std.proofs.Common.{◌<◌, subst}
 use Rattle.dm_fields.proofs.CopyForms.{no_flags}
 use Rattle.dm_fields.proofs.copies.copies_of.Goals as goal
 

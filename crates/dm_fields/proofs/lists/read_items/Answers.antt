@@ -1,5 +1,5 @@
 use Rattle.std.proofs.Common.{arith, ◌<◌, length}
-use Rattle.dm_fields.proofs.Items.{items_absent, read_more}
+use Rattle.dm_fields.proofs.Items.{items_absent}
 use Rattle.dm_fields.proofs.lists.read_items.Goals as goal
 
 pub returns-in-Err : goal.returns-in-Err

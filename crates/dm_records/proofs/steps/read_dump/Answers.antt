@@ -1,8 +1,4 @@
-use Rattle.std.specs.Prelude.{⊤}
-use Rattle.std.specs.List.{AllByRecursion}
-use Rattle.std.proofs.Common.{refl, length}
-use Rattle.dm_base.specs.Naming.{IsPath, IsDumpName}
-use Rattle.dm_durable.specs.Fields.{IsByte, IsWord, IsIdentifier, IsCount}
+use Rattle.std.proofs.Common.{refl}
 use Rattle.dm_records.specs.declared.kinds.StepKind.TheVariants.{Dump}
 use Rattle.dm_records.proofs.StepForms.{no_step}
 use Rattle.dm_records.proofs.steps.read_dump.Goals as goal

@@ -1,4 +1,3 @@
-use Rattle.std.specs.Prelude.{⊤}
 use Rattle.std.proofs.Common.{refl}
 use Rattle.dm_fields.proofs.Absent.{absent_as}
 use Rattle.dm_fields.proofs.copies.EntryField.read.Goals as goal

@@ -1,0 +1,9 @@
+use Rattle.std.proofs.Common.{refl}
+use Rattle.std.specs.Prelude.{⊤}
+use Rattle.dm_durable.specs.Fields.{IsWord}
+use Rattle.dm_records.specs.declared.kinds.RowKind.TheVariants.{OldState}
+use Rattle.dm_records.proofs.RowForms.{no_row}
+use Rattle.dm_records.proofs.rows.read_old_state.Goals as goal
+
+pub returns-in-Err : goal.returns-in-Err
+returns-in-Err c = no_row OldState _ (λ x. IsWord x.0.0 × (IsWord x.1.0 × (IsWord x.1.1.0 × (⊤ × (IsWord x.1.1.1.1.0 × (IsWord x.1.1.1.1.1.0 × IsWord x.1.1.1.1.1.1)))))) (λ x. refl) (λ x fits. (fits.0, (fits.1, (fits.2, (tt, (fits.3, (fits.4, fits.5))))))) c.args.input.now c.read.new.input c.read.new.input c.in-Err.error c.in-Err.ensures
