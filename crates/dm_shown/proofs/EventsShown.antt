@@ -31,7 +31,7 @@ use Rattle.dm_model.specs.Step.{Stepped, after_call, after_fault, after_landing,
 use Rattle.dm_model.specs.Step.{needs_of, outcome_of, plan_of, side_plan, step, volume_plan_in}
 use Rattle.dm_model.specs.VolumeCalls.{mount_in, volume_plan}
 use Rattle.dm_model.proofs.PlansOf.{group_plan-of, prepared-of, volume_plan-of}
-use Rattle.dm_model.proofs.Shares.{PaysOf}
+use Rattle.dm_model.proofs.Shares.{OpensOf, PaysOf}
 use Rattle.dm_plain.specs.Namespace.{Namespace}
 use Rattle.dm_invariant.specs.Doubts.{MayLandIf}
 use Rattle.dm_invariant.specs.Kept.{Kept}
@@ -78,21 +78,33 @@ look_is j k (component.Group g) a is = looked_is j k (map.get j.sides g.0) a is
 
 -- ---- what groups and volumes journal is nothing of the daemon
 
-side_pays : (g : GroupId) (c : GroupCall) (o : Option Side) → PaysOf g (prepared (side_plan g c o)).payload
+pub side_pays : (g : GroupId) (c : GroupCall) (o : Option Side) → PaysOf g (prepared (side_plan g c o)).payload
 side_pays g c None = tt
 side_pays g c (Some s) = (prepared-of g (group_plan g s.group c) (group_plan-of g s.group c)).pays
 
-volume_pays : (g : GroupId) (vsn : Vsn) (c : VolumeCall) (o : Option Side) → PaysOf g (prepared (volume_plan_in g vsn c o)).payload
+pub volume_pays : (g : GroupId) (vsn : Vsn) (c : VolumeCall) (o : Option Side) → PaysOf g (prepared (volume_plan_in g vsn c o)).payload
 volume_pays g vsn c None = tt
 volume_pays g vsn c (Some s) =
     let image = map.get s.images vsn.0 in
     let mount = map.get s.mounts (mount_in c) in
     (prepared-of g (volume_plan g vsn image mount c) (volume_plan-of g vsn image mount c)).pays
 
+-- nor do they make requests
+pub side_opens : (g : GroupId) (c : GroupCall) (o : Option Side) → OpensOf g (prepared (side_plan g c o)).opens
+side_opens g c None = tt
+side_opens g c (Some s) = (prepared-of g (group_plan g s.group c) (group_plan-of g s.group c)).opens
+
+pub volume_opens : (g : GroupId) (vsn : Vsn) (c : VolumeCall) (o : Option Side) → OpensOf g (prepared (volume_plan_in g vsn c o)).opens
+volume_opens g vsn c None = tt
+volume_opens g vsn c (Some s) =
+    let image = map.get s.images vsn.0 in
+    let mount = map.get s.mounts (mount_in c) in
+    (prepared-of g (volume_plan g vsn image mount c) (volume_plan-of g vsn image mount c)).opens
+
 record_is : (q r : DaemonRecord) → Some (payload.Daemon q) ≡ Some (payload.Daemon r) → q ≡ r
 record_is q r is = cc
 
-payload_is : (p q : Payload) → Some p ≡ Some q → p ≡ q
+pub payload_is : (p q : Payload) → Some p ≡ Some q → p ≡ q
 payload_is p q is = cc
 
 module _ (j : Joint) (w : ℕ) (ns : Namespace) (kept : Kept j) (a : AgreesWith (files_of j) ns) where

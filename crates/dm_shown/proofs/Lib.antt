@@ -10,3 +10,8 @@ pub mod PlansShown
 pub mod CallsShown
 pub mod EventsShown
 pub mod RunsShown
+-- reads
+pub mod FilesRead
+pub mod PathsAsked
+pub mod PathsAlong
+pub mod ChunksRead

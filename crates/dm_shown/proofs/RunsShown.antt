@@ -59,6 +59,11 @@ run_joined : (ss ts : List PlainStep) (ns : Namespace) → plain_run (ss ++ ts) 
 run_joined [] ts ns = refl
 run_joined (s ∷ ss) ts ns = run_joined ss ts (after s ns)
 
+-- the rest of a run that is kept along
+pub along_rest : (j mid : Joint) (e : Entered) (es : List Entered) → KeptAlong j (e ∷ es) → step j e.worker e.event ≡ Stepped mid e.answer
+    → KeptAlong mid es
+along_rest j mid e es kept is = subst (λ o. KeptAlong (state_after j o) es) is kept.1
+
 -- what is kept along a run is kept at its end
 pub kept_last : (j : Joint) (entries : List Entered) (k : Joint) → KeptAlong j entries → Run j entries k → Kept k
 kept_last j [] k kept run = subst Kept run kept

@@ -1,16 +1,24 @@
 //! What is proved, as contracts of functions that do nothing.
-ghost use Rattle.std.specs.Prelude.{◌≡◌, ℕ, List};
+ghost use Rattle.std.specs.Prelude.{◌≡◌, ℕ, List, Some};
 ghost use Rattle.std.specs.List.{AllByRecursion};
+ghost use Rattle.dm_base.specs.declared.identifier.Bfid.{Bfid};
+ghost use Rattle.dm_base.specs.declared.identifier.GroupId.{GroupId};
+ghost use Rattle.dm_base.specs.declared.identifier.Secs.{Secs};
 ghost use Rattle.dm_effects.specs.OfDaemon.{IsOfDaemon};
 ghost use Rattle.dm_invariant.specs.Kept.{Kept};
 ghost use Rattle.dm_invariant.specs.StandsFor.{plain_of, shown};
 ghost use Rattle.dm_model.specs.declared.answer.Answer.{Answer};
+ghost use Rattle.dm_model.specs.declared.answer.Answer.TheVariants as answer;
+ghost use Rattle.dm_model.specs.declared.call.Call.TheVariants as call;
+ghost use Rattle.dm_model.specs.declared.call.DaemonCall.TheVariants as daemon_call;
 ghost use Rattle.dm_model.specs.declared.call.Event.{Event};
+ghost use Rattle.dm_model.specs.declared.call.Event.TheVariants as event;
 ghost use Rattle.dm_model.specs.declared.state.Joint.{Joint};
 ghost use Rattle.dm_model.specs.Project.{event_steps, plain_run, projected};
 ghost use Rattle.dm_model.specs.Step.{Entered, Run, Stepped, step};
-ghost use Rattle.dm_plain.specs.Namespace.{Namespace};
-ghost use Rattle.dm_shown.specs.Along.{KeptAlong};
+ghost use Rattle.dm_plain.specs.Namespace.{Namespace, bytes_of};
+ghost use Rattle.dm_shown.specs.Along.{GoesOn, KeptAlong};
+ghost use Rattle.dm_shown.specs.Reads.{ChunksRight, OnlineRight, RecalledRight};
 
 /// What users see of the namespace that a state stands for goes along with the plain steps of each legal event, and with
 /// nothing else: where users see of a namespace what the state stands for, they see of that namespace after the event's
@@ -26,4 +34,25 @@ pub fn plain_kept()
         → AllByRecursion (λ e. IsOfDaemon e.event) entries → Run j entries k
         → plain_of j ≡ shown ns → plain_of k ≡ shown (plain_run (projected j entries) ns) }
     ensures seen { (j : Joint) → Kept j → plain_of j ≡ shown (plain_of j) }
+{}
+
+/// What reads answer in a state of the invariant (docs/DEFINITIONS.md, "What users see"): a file whose bytes are on the disk, and
+/// one that was recalled, is answered as the namespace has it that users see. A recall is answered as the namespace has it
+/// at the path at which it was begun, whatever was written, moved and freed since. A read of the chunk that a mount
+/// was made for gives the chunk's part of the content where reads of the mount are bound, and where the bytes have the chunk's
+/// sum; for the latter alone it is supposed that the part and the bytes have different sums where they differ.
+pub fn reads_right()
+    ensures online { (j : Joint) (ns : Namespace) → Kept j → plain_of j ≡ shown ns → OnlineRight j ns }
+    ensures recalled { (j : Joint) (ns : Namespace) → Kept j → plain_of j ≡ shown ns → RecalledRight j ns }
+    ensures chunks { (j : Joint) → Kept j → ChunksRight j }
+    ensures online_after { (j : Joint) (entries : List Entered) (k : Joint) (ns : Namespace) → KeptAlong j entries → Run j entries k
+        → plain_of j ≡ shown ns → OnlineRight k (plain_run (projected j entries) ns) }
+    ensures recalled_after { (j : Joint) (entries : List Entered) (k : Joint) (ns : Namespace) → KeptAlong j entries → Run j entries k
+        → plain_of j ≡ shown ns → RecalledRight k (plain_run (projected j entries) ns) }
+    ensures asked { (j begun k after : Joint) (v w request number len : ℕ) (path : List ℕ) (b : Bfid) (groups : List GroupId)
+        (entries : List Entered) (bytes given : List ℕ) (now : Secs) (ns : Namespace)
+        → step j v (event.Call (call.Daemon (daemon_call.BeginRecall path request))) ≡ Stepped begun (answer.RecallBegun number b len groups)
+        → KeptAlong begun entries → AllByRecursion (λ e. GoesOn e.event) entries → Run begun entries k
+        → step k w (event.Call (call.Daemon (daemon_call.EndRecall request bytes now))) ≡ Stepped after (answer.Recalled given)
+        → plain_of k ≡ shown ns → bytes_of path ns ≡ Some given }
 {}

@@ -8,4 +8,4 @@
 
 mod laws;
 
-pub use laws::plain_kept;
+pub use laws::{plain_kept, reads_right};
