@@ -14,3 +14,4 @@ mod Rowing
 pub mod Writing
 pub mod Once
 pub mod Meaning
+pub mod Lending

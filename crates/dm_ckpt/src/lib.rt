@@ -32,3 +32,6 @@ pub const LAST_PLACE_BEHIND: u64 = 88_080_388;
 
 /// The lengths of a snapshot's rows, with 4 for each, sum to less than this.
 pub const BODY_LIMIT: u64 = 1 << 62;
+
+#[cfg(test)]
+mod tests;
