@@ -15,3 +15,6 @@ pub mod FilesRead
 pub mod PathsAsked
 pub mod PathsAlong
 pub mod ChunksRead
+-- what is there, and what is dead
+pub mod BitfilesThere
+pub mod VolumesDead

@@ -19,6 +19,8 @@ ghost use Rattle.dm_model.specs.Step.{Entered, Run, Stepped, step};
 ghost use Rattle.dm_plain.specs.Namespace.{Namespace, bytes_of};
 ghost use Rattle.dm_shown.specs.Along.{GoesOn, KeptAlong};
 ghost use Rattle.dm_shown.specs.Reads.{ChunksRight, OnlineRight, RecalledRight};
+ghost use Rattle.dm_shown.specs.There.{LandedDead, RequestThere, ReusedDead, YoungThere};
+ghost use Rattle.dm_tables.specs.Rows.{EachRow};
 
 /// What users see of the namespace that a state stands for goes along with the plain steps of each legal event, and with
 /// nothing else: where users see of a namespace what the state stands for, they see of that namespace after the event's
@@ -55,4 +57,25 @@ pub fn reads_right()
         → KeptAlong begun entries → AllByRecursion (λ e. GoesOn e.event) entries → Run begun entries k
         → step k w (event.Call (call.Daemon (daemon_call.EndRecall request bytes now))) ≡ Stepped after (answer.Recalled given)
         → plain_of k ≡ shown ns → bytes_of path ns ≡ Some given }
+{}
+
+/// The entry of an open request is there, and isn't being dropped; and the bitfile of an open recall is in each group that was
+/// asked (docs/DEFINITIONS.md, "What is there, and what is dead").
+pub fn request_there()
+    ensures there { (j : Joint) → Kept j → EachRow j.daemon.requests (λ k r. RequestThere j r) }
+{}
+
+/// Each bitfile that a young dump names is in each of its groups, and no hard delete ever took it; so it is after each legal
+/// event of the daemon, whatever age was set and whatever was hard-deleted (docs/DEFINITIONS.md, "What is there, and what is dead").
+pub fn young_kept()
+    ensures there { (j : Joint) → Kept j → YoungThere j }
+    ensures after { (j k : Joint) (w : ℕ) (e : Event) (a : Answer) → Kept j → IsOfDaemon e → step j w e ≡ Stepped k a → YoungThere k }
+{}
+
+/// A volume that is used again was held for the group's hold since it was freed, or is empty; and nothing is on it: no chunk, no
+/// zone of a reservation, and no mount but the reuse's own. So it is as a reuse is accepted, and as one in doubt is found
+/// to have landed (docs/DEFINITIONS.md, "What is there, and what is dead").
+pub fn freed_dead()
+    ensures reused { (j : Joint) → Kept j → ReusedDead j }
+    ensures landed { (j : Joint) → Kept j → LandedDead j }
 {}

@@ -8,4 +8,4 @@
 
 mod laws;
 
-pub use laws::{plain_kept, reads_right};
+pub use laws::{freed_dead, plain_kept, reads_right, request_there, young_kept};
