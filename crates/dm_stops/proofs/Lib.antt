@@ -4,3 +4,5 @@ pub mod StopKept
 -- opened states
 pub mod OpenedKept
 pub mod EmptyOpened
+pub mod ExampleSides
+pub mod ExampleOpened

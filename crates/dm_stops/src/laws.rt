@@ -1,5 +1,6 @@
 //! What is proved, as contracts of functions that do nothing.
-ghost use Rattle.std.specs.Prelude.{◌≡◌, ◌≤◌, ℕ, true, List};
+ghost use Rattle.std.specs.Prelude.{◌≡◌, ◌≤◌, ℕ, true, Some, List};
+ghost use Rattle.std.specs.FinMap as map;
 ghost use Rattle.dm_base.specs.declared.conf.DaemonConf.{DaemonConf};
 ghost use Rattle.dm_base.specs.declared.conf.GroupConf.{GroupConf};
 ghost use Rattle.dm_base.specs.declared.identifier.Secs.{Secs};
@@ -7,8 +8,10 @@ ghost use Rattle.dm_durable.specs.declared.daemon.DaemonStep.TheVariants as reco
 ghost use Rattle.dm_durable.specs.declared.daemon.DaemonTables.{DaemonTables};
 ghost use Rattle.dm_durable.specs.Daemon.{after_record};
 ghost use Rattle.dm_durable.specs.DaemonConditions.{MayFollow};
+ghost use Rattle.dm_durable.specs.Dumps.{is_young};
 ghost use Rattle.dm_durable.specs.Inodes.{has_making};
 ghost use Rattle.dm_durable.specs.Tables.{Numbered};
+ghost use Rattle.dm_durable.specs.Volumes.{is_sparse_in};
 ghost use Rattle.dm_invariant.specs.Files.{DumpsKept, FilesKept};
 ghost use Rattle.dm_invariant.specs.Kept.{Kept};
 ghost use Rattle.dm_invariant.specs.Opened.{Opened};
@@ -17,7 +20,9 @@ ghost use Rattle.dm_model.specs.declared.call.Event.TheVariants as event;
 ghost use Rattle.dm_model.specs.declared.state.Joint.{Joint};
 ghost use Rattle.dm_model.specs.Begin.{empty_joint};
 ghost use Rattle.dm_model.specs.Step.{Stepped, step};
+ghost use Rattle.dm_model.specs.Volumes.{usage_of};
 ghost use Rattle.dm_stops.specs.Closed.{Closed};
+ghost use Rattle.dm_stops.specs.Example.{dual, dump, dump_name, example, first_side, first_volume, first_vsn, offline, regular, second_side};
 ghost use Rattle.dm_stops.specs.FirstConf.{FirstConf};
 
 /// What is kept of a state is kept by a stop and the start after it, which may come at any moment: whatever is open then,
@@ -44,4 +49,15 @@ pub fn restart_lands()
 pub fn opened_kept()
     ensures kept { (j : Joint) → Opened j → Kept j }
     ensures first { (conf : DaemonConf) (groups : List GroupConf) → FirstConf conf groups → Opened (empty_joint conf groups) }
+{}
+
+/// There is an opened state with files of each form that a run may begin with, a young dump, two groups, and a volume that is
+/// to be merged.
+pub fn example_opened()
+    ensures opened { Opened example }
+    ensures groups { (map.get example.sides 1 ≡ Some first_side) × (map.get example.sides 2 ≡ Some second_side) }
+    ensures files { (map.get example.daemon.tables.inodes 1 ≡ Some regular) × (map.get example.daemon.tables.inodes 2 ≡ Some dual)
+        × (map.get example.daemon.tables.inodes 3 ≡ Some offline) }
+    ensures dumped { (map.get example.daemon.tables.dumps dump_name ≡ Some dump) × (is_young example.daemon.tables.time.0 dump ≡ true) }
+    ensures sparse { let x = first_side.group in is_sparse_in (usage_of x) x.conf.sparse x.tables first_vsn.0 first_volume ≡ true }
 {}

@@ -7,4 +7,4 @@
 
 mod laws;
 
-pub use laws::{opened_kept, restart_lands, stop_keeps};
+pub use laws::{example_opened, opened_kept, restart_lands, stop_keeps};
