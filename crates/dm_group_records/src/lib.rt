@@ -11,6 +11,8 @@ mod logs;
 mod old_steps;
 mod rows;
 mod steps;
+#[cfg(test)]
+mod tests;
 
 pub use kinds::{OldKind, StepKind};
 pub use laws::{payloads_are_short, spelled_once};
