@@ -18,3 +18,6 @@ pub use logs::{put_head, put_record, put_upgrade, read_log, record_len};
 pub use names::{FirstName, SecondName};
 pub use rows::{RowOf, kind_of_row, put_row, read_row, row_len};
 pub use steps::{fields_len, kind_of, put_fields, read_fields};
+
+#[cfg(test)]
+mod tests;
