@@ -7,3 +7,4 @@ pub mod TipsRisen
 pub mod TipsMoved
 pub mod PlacesMore
 pub mod ReservationOpened
+pub mod MoveOpened
