@@ -8,3 +8,4 @@ pub mod TipsMoved
 pub mod PlacesMore
 pub mod ReservationOpened
 pub mod MoveOpened
+pub mod GroupPlans
