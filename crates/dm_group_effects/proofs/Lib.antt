@@ -9,3 +9,4 @@ pub mod PlacesMore
 pub mod ReservationOpened
 pub mod MoveOpened
 pub mod GroupPlans
+pub mod MountCalls
