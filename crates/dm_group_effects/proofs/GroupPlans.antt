@@ -65,7 +65,7 @@ module _ (j : Joint) (kept : Kept j) (g : GroupId) (s : Side) (side : map.get j.
       let at = subst (λ (x : GroupId). Kept (after_payload (Some (payload.Group x r)) (after_healing true (component.Group g) j))) (sym pays.0) lands in
       subst (λ b. Kept (after_payload (Some (payload.Group h r)) (after_healing b (component.Group g) j))) (sym heal) at
 
-  doubted_keeps : (far : Bool) (p : Option Payload) → PaysIf j g s p → Kept (doubting (cond far p None) j)
+  pub doubted_keeps : (far : Bool) (p : Option Payload) → PaysIf j g s p → Kept (doubting (cond far p None) j)
   doubted_keeps false p pays = kept
   doubted_keeps true None pays = kept
   doubted_keeps true (Some (payload.Daemon r)) pays = absurd pays

@@ -10,3 +10,5 @@ pub mod ReservationOpened
 pub mod MoveOpened
 pub mod GroupPlans
 pub mod MountCalls
+pub mod FreeSlots
+pub mod StepCalls
