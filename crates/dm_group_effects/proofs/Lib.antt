@@ -12,3 +12,4 @@ pub mod GroupPlans
 pub mod MountCalls
 pub mod FreeSlots
 pub mod StepCalls
+pub mod MergeCalls
