@@ -13,3 +13,5 @@ pub mod MountCalls
 pub mod FreeSlots
 pub mod StepCalls
 pub mod MergeCalls
+pub mod ZoneChunks
+pub mod ZoneBytes
