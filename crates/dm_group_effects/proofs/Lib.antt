@@ -15,3 +15,5 @@ pub mod StepCalls
 pub mod MergeCalls
 pub mod ZoneChunks
 pub mod ZoneBytes
+pub mod SummedChunks
+pub mod CommitCall
