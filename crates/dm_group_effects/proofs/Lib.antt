@@ -17,3 +17,4 @@ pub mod ZoneChunks
 pub mod ZoneBytes
 pub mod SummedChunks
 pub mod CommitCall
+pub mod MoveCall
