@@ -75,6 +75,7 @@ side_put_ended entries contents taken requests g committed deleted s n b groups 
         epoch = k.mounts.epoch;
         apart = k.mounts.apart;
         drives = k.mounts.drives;
+        reads = k.mounts.reads;
         origin = λ m x is. origin_left s.group.conf s.group.reservations s.copies s.group.moves s.group.reuses b.0 m x.vsn x.origin none
             (k.mounts.origin m x is);
       };

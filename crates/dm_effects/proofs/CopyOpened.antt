@@ -82,6 +82,7 @@ side_put_opened entries contents taken requests g committed deleted s n r len gr
         epoch = k.mounts.epoch;
         apart = k.mounts.apart;
         drives = k.mounts.drives;
+        reads = k.mounts.reads;
         origin = λ m x is. origin_more s.group.conf s.group.reservations s.copies s.group.moves s.group.reuses r.bfid.0 m made x.vsn x.origin
             opens.unreserved (k.mounts.origin m x is);
       };

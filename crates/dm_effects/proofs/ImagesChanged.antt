@@ -1,6 +1,6 @@
 -- What a call leaves on a volume: a side is kept where only places of a range change that none of the chunks has, neither
 -- stored, nor once live, nor in doubt, and where what was read and written is right.
-use Rattle.std.proofs.Common.{◌≡◌, ◌⊎◌, ℕ, ◌+◌, ◌<◌, ◌≤◌, Some, None, Option, option_map, List, length, refl, sym, ap, ◌∙◌, inl, inr, subst}
+use Rattle.std.proofs.Common.{◌≡◌, ◌⊎◌, ℕ, Bool, ◌+◌, ◌<◌, ◌≤◌, Some, None, Option, option_map, List, length, refl, sym, ap, ◌∙◌, inl, inr, subst}
 use Rattle.std.specs.FinMap as map
 use Rattle.dm_base.specs.declared.conf.GroupConf.{GroupConf}
 use Rattle.dm_base.specs.declared.serial.Vsn.{Vsn}
@@ -39,7 +39,7 @@ use Rattle.dm_invariant.specs.Assemble.{ChunkKnown, known_of, known_on}
 use Rattle.dm_invariant.specs.Catalogue.{BitfileKept}
 use Rattle.dm_invariant.specs.Doubts.{GroupMayLandIf, GroupStepNeeds, IsUnused, PutNeeds}
 use Rattle.dm_invariant.specs.Kept.{SideKept}
-use Rattle.dm_invariant.specs.Mounts.{MountsKept, OriginKept, mounted_of}
+use Rattle.dm_invariant.specs.Mounts.{MayRead, MountsKept, OriginKept, mounted_of}
 use Rattle.dm_invariant.specs.Moves.{ReadRight, WrittenRight}
 use Rattle.dm_invariant.specs.OnceLive.{MountOnce, OnceLive, StillThere}
 use Rattle.dm_invariant.specs.Places.{ChunkCovers, IsDoubted, IsPut}
@@ -133,6 +133,7 @@ pub record MountLike (x y : MountState) : Type 0 where
   pub vsn : y.vsn ≡ x.vsn
   pub epoch : y.epoch ≡ x.epoch
   pub origin : y.origin ≡ x.origin
+  pub bound : y.bound ≡ x.bound
 
 -- a table of mounts before and after
 pub record MountsLike (old new : Numbered MountState) : Type 0 where
@@ -144,8 +145,8 @@ pub record MountsLike (old new : Numbered MountState) : Type 0 where
 pub mounts_same : (mounts : Numbered MountState) → MountsLike mounts mounts
 mounts_same mounts = record {
   same = λ m. refl;
-  stays = λ m x is. (x, is, record { vsn = refl; epoch = refl; origin = refl });
-  comes = λ m x is. (x, is, record { vsn = refl; epoch = refl; origin = refl });
+  stays = λ m x is. (x, is, record { vsn = refl; epoch = refl; origin = refl; bound = refl });
+  comes = λ m x is. (x, is, record { vsn = refl; epoch = refl; origin = refl; bound = refl });
 }
 
 mounted_as : (f : MountState → MountState) (o : Option MountState) → ((x : MountState) → MountLike x (f x))
@@ -165,11 +166,11 @@ mount_changed f mounts m like = record {
   ];
   stays = λ q x is. elim (same_or numbers m q) [
     | inl here ↦ (f x, ap (map.get (adjust mounts m f)) here ∙ adjusted_row numbers mounts m f x (ap (map.get mounts) (sym here) ∙ is), like x)
-    | inr differ ↦ (x, adjusted-beside numbers mounts m f q differ ∙ is, record { vsn = refl; epoch = refl; origin = refl })
+    | inr differ ↦ (x, adjusted-beside numbers mounts m f q differ ∙ is, record { vsn = refl; epoch = refl; origin = refl; bound = refl })
   ];
   comes = λ q y is. elim (adjusted numbers mounts m f q y is) [
     | inl at ↦ (at.1.0, ap (map.get mounts) at.0 ∙ at.1.1, subst (MountLike at.1.0) (sym at.1.2) (like at.1.0))
-    | inr beside ↦ (y, beside.1, record { vsn = refl; epoch = refl; origin = refl })
+    | inr beside ↦ (y, beside.1, record { vsn = refl; epoch = refl; origin = refl; bound = refl })
   ];
 }
 
@@ -191,6 +192,10 @@ module _ (conf : GroupConf) (volumes : Named VolumeRow) (reservations : Numbered
         let w = like.comes n z at in
         k.apart m n x.0 w.0 x.1 w.1 (ap (λ (v : Vsn). v.0) (sym x.2.vsn) ∙ same ∙ ap (λ (v : Vsn). v.0) w.2.vsn);
     drives = k.drives;
+    reads = λ m y is.
+        let x = like.comes m y is in
+        subst (λ (o : Origin). MayRead o y.bound) (sym x.2.origin)
+        (subst (λ (b : Bool). MayRead x.0.origin b) (sym x.2.bound) (k.reads m x.0 x.1));
     origin = λ m y is.
         let x = like.comes m y is in
         let was = origin_by HeldLike (λ h k like. like.number) copies new on conf reservations moves reuses m x.0.vsn x.0.origin

@@ -114,7 +114,7 @@ module _ (entries : Numbered Entry) (contents : Numbered (List ℕ)) (taken : Nu
   label_changed =
       side_beside entries contents taken requests g committed deleted vsn 0 n s images s.copies (adjust s.mounts m (labelled_as label)) beside
       (copies_same HeldLike like_itself s.copies)
-      (mount_changed (labelled_as label) s.mounts m (λ x. record { vsn = refl; epoch = refl; origin = refl })) label_spared written_behind
+      (mount_changed (labelled_as label) s.mounts m (λ x. record { vsn = refl; epoch = refl; origin = refl; bound = refl })) label_spared written_behind
       (record { read = read_after; written = written_after }) kept
 
 -- the label of a volume is written: the side is kept

@@ -190,6 +190,7 @@ side_mount_ended entries contents taken requests g committed deleted s h m none 
         epoch = λ q x is. k.mounts.epoch q x (removed numbers s.mounts m q x is).1;
         apart = λ p q x y is at. k.mounts.apart p q x y (removed numbers s.mounts m p x is).1 (removed numbers s.mounts m q y at).1;
         drives = drives_left s.group.mounts m conf.drives k.mounts.drives;
+        reads = λ q x is. k.mounts.reads q x (removed numbers s.mounts m q x is).1;
         origin = λ q x is.
             let was = removed numbers s.mounts m q x is in
             origin_left conf s.group.reservations new s.group.moves s.group.reuses m q x.vsn x.origin was.0

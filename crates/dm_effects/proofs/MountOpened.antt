@@ -30,7 +30,7 @@ use Rattle.dm_model.specs.GroupCalls.{piece_at}
 use Rattle.dm_model.specs.SideShare.{copies_mounted, new_mount, reservation_by, side_after_opening, with_piece_mount}
 use Rattle.dm_invariant.specs.Doubts.{GroupMayLandIf, GroupStepNeeds, IsUnused}
 use Rattle.dm_invariant.specs.Kept.{SideKept}
-use Rattle.dm_invariant.specs.Mounts.{NewMount, OriginKept, mounted_of}
+use Rattle.dm_invariant.specs.Mounts.{MayRead, NewMount, OriginKept, mounted_of}
 use Rattle.dm_invariant.specs.OnceLive.{MountOnce}
 use Rattle.dm_effects.proofs.Copies.{CopiesBy, copies_same, copies_changed}
 use Rattle.dm_effects.proofs.MountEnded.{HeldBeside, move_left, origin_beside, reservations_beside, reuse_left}
@@ -78,6 +78,7 @@ pub record MountOpens (contents : Numbered (List ℕ)) (s : Side) (m : ℕ) (vsn
   pub unmounted : EachRow s.mounts (λ n x. x.vsn.0 ≡ vsn.0 → ⊥)
   pub drive : suc (map.len s.group.mounts) ≤ s.group.conf.drives
   pub fits : OriginOpens s vsn made
+  pub reads : MayRead made (new_mount s vsn epoch made).bound
   pub once : MountOnce contents s.group.tables.volumes s.images s.group.reservations s.group.moves epoch made
   pub beside : DoubtTakes vsn.0 s.group.doubt → ⊥
 
@@ -243,6 +244,7 @@ side_mount_opened entries contents taken requests g committed deleted s h m vsn 
             (λ q y differ at. k.mounts.epoch q y at);
         apart = apart_more s.mounts m x opens.unmounted k.mounts.apart;
         drives = drive_taken s.group.mounts m (mounted_of x) conf.drives opens.drive;
+        reads = each-beside numbers (λ q y. MayRead y.origin y.bound) s.mounts m x opens.reads (λ q y differ at. k.mounts.reads q y at);
         origin = each-beside numbers
             (λ q y. OriginKept conf s.group.reservations new s.group.moves s.group.reuses q y.vsn y.origin) s.mounts m x
             (origin_made s m vsn made opens.fits)

@@ -181,6 +181,7 @@ side_move_ended entries contents taken requests g committed deleted s h job x is
             (left_of_two s.mounts x.source x.target q z and).2;
         drives = drives_left (map.remove s.group.mounts x.source) x.target conf.drives
             (drives_left s.group.mounts x.source conf.drives k.mounts.drives);
+        reads = λ q y at. k.mounts.reads q y (left_of_two s.mounts x.source x.target q y at).2;
         origin = λ q y at.
             let was = left_of_two s.mounts x.source x.target q y at in
             origin_left conf s.group.reservations s.copies s.group.moves s.group.reuses job q x y.vsn y.origin is was.0 was.1

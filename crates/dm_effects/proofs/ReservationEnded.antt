@@ -225,6 +225,7 @@ side_reservation_ended entries contents taken requests g committed deleted s h n
         epoch = k.mounts.epoch;
         apart = k.mounts.apart;
         drives = k.mounts.drives;
+        reads = k.mounts.reads;
         origin = λ m x is. origin_left s.group.reservations s.copies n b.0 ends s.group.conf s.group.moves s.group.reuses m x.vsn x.origin
             (k.mounts.origin m x is);
       };

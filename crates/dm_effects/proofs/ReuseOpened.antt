@@ -28,7 +28,7 @@ use Rattle.dm_model.specs.declared.state.Side.{Side}
 use Rattle.dm_model.specs.SideShare.{new_mount, side_after_opening}
 use Rattle.dm_invariant.specs.Doubts.{GroupMayLandIf}
 use Rattle.dm_invariant.specs.Kept.{SideKept}
-use Rattle.dm_invariant.specs.Mounts.{OriginKept, mounted_of}
+use Rattle.dm_invariant.specs.Mounts.{MayRead, OriginKept, mounted_of}
 use Rattle.dm_invariant.specs.Moves.{IsReadyAt, ReuseKept}
 use Rattle.dm_invariant.specs.OnceLive.{MountOnce}
 use Rattle.dm_effects.proofs.MountEnded.{move_left, reuse_left}
@@ -99,6 +99,7 @@ side_reuse_opened entries contents taken requests g committed deleted s h m epoc
             (λ q z differ at. k.mounts.epoch q z at);
         apart = apart_more s.mounts m y opens.unmounted k.mounts.apart;
         drives = drive_taken s.group.mounts m (mounted_of y) conf.drives opens.drive;
+        reads = each-beside numbers (λ q z. MayRead z.origin z.bound) s.mounts m y tt (λ q z differ at. k.mounts.reads q z at);
         origin = each-beside numbers
             (λ q z. OriginKept conf s.group.reservations s.copies s.group.moves (map.insert s.group.reuses m x) q z.vsn z.origin) s.mounts m y
             (record { reusing = x; is = get-here numbers s.group.reuses m x; next = refl; same = refl; volume = refl })

@@ -96,6 +96,6 @@ module _ (entries : Numbered Entry) (contents : Numbered (List ℕ)) (taken : Nu
   side_source_read h =
       side_beside entries contents taken requests g committed deleted [] 0 0 s s.images s.copies (adjust s.mounts m (with_read bytes))
       (images_same [] 0 0 s.images) (copies_same HeldLike like_itself s.copies)
-      (mount_changed (with_read bytes) s.mounts m (λ x. record { vsn = refl; epoch = refl; origin = refl }))
+      (mount_changed (with_read bytes) s.mounts m (λ x. record { vsn = refl; epoch = refl; origin = refl; bound = refl }))
       (no_places contents s [] 0) (all_written entries contents taken requests g committed deleted s kept)
       (record { read = read_after; written = written_after }) kept

@@ -64,6 +64,7 @@ nothing_mounted conf volumes = record {
   apart = λ m n x y is at same. absurd (none_in_empty nat_cmp map.empty m x refl is);
   drives = let none = map.len-empty nat_cmp Mounted in omega (arith, none);
   origin = each-empty nat_cmp _;
+  reads = each-empty nat_cmp _;
 }
 
 -- who has a place had it before

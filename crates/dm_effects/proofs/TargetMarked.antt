@@ -150,7 +150,7 @@ module _ (entries : Numbered Entry) (contents : Numbered (List ℕ)) (taken : Nu
       target_marked =
           side_beside entries contents taken requests g committed deleted vsn place (length zone) s images s.copies
           (adjust s.mounts m (written_as bytes)) beside (copies_same HeldLike like_itself s.copies)
-          (mount_changed (written_as bytes) s.mounts m (λ x. record { vsn = refl; epoch = refl; origin = refl })) zone_spared pieces_written
+          (mount_changed (written_as bytes) s.mounts m (λ x. record { vsn = refl; epoch = refl; origin = refl; bound = refl })) zone_spared pieces_written
           (record { read = read_after; written = written_after }) kept
 
 -- the zone of a moved chunk is written: the side is kept

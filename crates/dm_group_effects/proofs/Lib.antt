@@ -18,3 +18,4 @@ pub mod ZoneBytes
 pub mod SummedChunks
 pub mod CommitCall
 pub mod MoveCall
+pub mod GroupEvents

@@ -53,7 +53,7 @@ use Rattle.dm_effects.proofs.MoveEnded.{side_move_ended}
 use Rattle.dm_effects.proofs.ReservationEnded.{ReservationEnds, side_reservation_ended}
 use Rattle.dm_effects.proofs.Settled.{side_healed}
 use Rattle.dm_group_effects.proofs.GroupPlans.{CallKept, IsStep, never_kept, opening_kept, step_kept}
-use Rattle.dm_group_effects.proofs.MoveOpened.{live_once}
+use Rattle.dm_group_effects.proofs.MoveOpened.{live_once, live_reads}
 use Rattle.dm_group_effects.proofs.SideChanges.{KeptAs}
 
 -- ---- what isn't mounted
@@ -160,6 +160,7 @@ module _ (j : Joint) (kept : Kept j) (w : ℕ) (g : GroupId) (s : Side) (side : 
           unmounted = may.unmounted;
           drive = omega (arith, drives);
           fits = record { configured = all.0; same = refl };
+          reads = tt;
           once = tt;
           beside = λ takes. takes;
         })
@@ -196,6 +197,7 @@ module _ (j : Joint) (kept : Kept j) (w : ℕ) (g : GroupId) (s : Side) (side : 
             piece = at;
             volume = refl;
           };
+          reads = tt;
           once = tt;
           beside = doubt_spares g.0 j.daemon.tables.entries j.history.contents j.history.taken (deleted_in done) s n r p is among
               (mine.zones p among) s.group.doubt own.doubt;
@@ -226,6 +228,8 @@ module _ (j : Joint) (kept : Kept j) (w : ℕ) (g : GroupId) (s : Side) (side : 
               unmounted = may.unmounted;
               drive = omega (arith, drives);
               fits = refl;
+              reads = live_reads j.daemon.tables.entries j.history.contents j.history.taken j.daemon.requests g.0 (committed_in done) (deleted_in done)
+                  (side_without_doubt true s) b.0 row c is (chunk_among offset row.chunks c at) healed_side;
               once = live_once j.daemon.tables.entries j.history.contents j.history.taken j.daemon.requests g.0 (committed_in done) (deleted_in done)
                   (side_without_doubt true s) (epoch_of s.group c.vsn.0) b.0 row c is (chunk_among offset row.chunks c at) healed_side;
               beside = λ takes. takes;

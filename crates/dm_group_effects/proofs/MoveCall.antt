@@ -356,20 +356,22 @@ module _ (j : Joint) (kept : Kept j) (w : ℕ) (g : GroupId) (s : Side) (side : 
             let k = own.moves.moving job x is in
             let bitfiles = s.group.tables.bitfiles in
             let has = has_chunk bitfiles x.bfid.0 x.from (map.get bitfiles x.bfid.0) refl (not_false _ none.0) in
-            let moved = was_moved_is x sum (map.get s.mounts x.source) (map.get s.mounts x.target) k.source k.target k.source_is k.target_is all.0 in
-            (refl, record {
-              now = record {
-                may = record {
-                  follow = record {
-                    time = omega arith;
-                    step = may_move g.0 t.entries h.contents h.taken j.daemon.requests (committed_in done) (deleted_in done) s own job x is sum has moved;
+            let moved = was_moved_is x sum (map.get s.mounts x.source) (map.get s.mounts x.target) k.source k.target k.source_is k.target_is all.0 in (
+              refl,
+              record {
+                now = record {
+                  may = record {
+                    follow = record {
+                      time = omega arith;
+                      step = may_move g.0 t.entries h.contents h.taken j.daemon.requests (committed_in done) (deleted_in done) s own job x is sum has moved;
+                    };
+                    needs =
+                        move_needs g.0 t.entries h.contents h.taken j.daemon.requests (committed_in done) (deleted_in done) s own job x is sum has moved;
                   };
-                  needs =
-                      move_needs g.0 t.entries h.contents h.taken j.daemon.requests (committed_in done) (deleted_in done) s own job x is sum has moved;
+                  places = places_moving g.0 t.entries h.contents h.taken j.daemon.requests (committed_in done) (deleted_in done) s own job x is sum _;
                 };
-                places = places_moving g.0 t.entries h.contents h.taken j.daemon.requests (committed_in done) (deleted_in done) s own job x is sum _;
-              };
-              lasting = λ b e at dropping away puts.
-                  none_some (map.get bitfiles x.bfid.0) has.row (ap (map.get bitfiles) puts ∙ away.away) has.is;
-            });
+                lasting = λ b e at dropping away puts.
+                    none_some (map.get bitfiles x.bfid.0) has.row (ap (map.get bitfiles) puts ∙ away.away) has.is;
+              },
+            );
       })

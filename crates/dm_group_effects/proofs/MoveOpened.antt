@@ -1,6 +1,7 @@
 -- A move begins, with its two mounts: the tip of the target rises, and the zone of the moved chunk has the places behind it. A
 -- side is kept where both volumes aren't mounted, drives are free, and nothing is in doubt.
-use Rattle.std.proofs.Common.{◌≡◌, ◌≢◌, ◌⊎◌, ℕ, suc, ◌+◌, ◌-◌, ◌<◌, ◌≤◌, Some, None, Option, List, [], ◌∷◌, refl, sym, ap, subst, ◌∙◌, arith, inl, inr}
+use Rattle.std.proofs.Common.{◌≡◌, ◌≢◌, ◌⊎◌, ℕ, suc, ◌+◌, ◌-◌, ◌<◌, ◌≤◌, true, false, nat_eq, is_some, eq-eqb, Some, None, Option, List, [], ◌∷◌, refl, sym, ap, subst, ◌∙◌, arith, inl, inr}
+use Rattle.std.proofs.lemmas.Bool.{or_left}
 use Rattle.std.specs.FinMap as map
 use Rattle.dm_base.specs.declared.conf.GroupConf.{GroupConf}
 use Rattle.dm_base.specs.declared.identifier.Bfid.{Bfid}
@@ -8,6 +9,7 @@ use Rattle.dm_base.specs.declared.identifier.GroupId.{GroupId}
 use Rattle.dm_base.specs.declared.serial.Vsn.{Vsn}
 use Rattle.dm_base.specs.declared.volume.Chunk.{Chunk}
 use Rattle.dm_rules.specs.Numbers.{narrowed}
+use Rattle.dm_rules.specs.Version.{IsVersion, first_version, has_sum, second_version}
 use Rattle.dm_rules.specs.Zone.{weight}
 use Rattle.dm_tables.specs.Rows.{EachRow}
 use Rattle.dm_tables.proofs.Orders.{numbers}
@@ -31,11 +33,11 @@ use Rattle.dm_model.specs.declared.state.Reserved.{Reserved}
 use Rattle.dm_model.specs.declared.state.Reusing.{Reusing}
 use Rattle.dm_model.specs.declared.state.Side.{Side}
 use Rattle.dm_model.specs.GroupShare.{tip_behind_moved}
-use Rattle.dm_model.specs.SideShare.{new_mount, side_after_opening, source_of, target_of}
+use Rattle.dm_model.specs.SideShare.{is_bound, new_mount, side_after_opening, source_of, target_of}
 use Rattle.dm_model.specs.Volumes.{usage_of}
 use Rattle.dm_invariant.specs.Among.{Among}
 use Rattle.dm_invariant.specs.Kept.{SideKept}
-use Rattle.dm_invariant.specs.Mounts.{OriginKept, mounted_of}
+use Rattle.dm_invariant.specs.Mounts.{MayRead, OriginKept, ReadsChunk, mounted_of}
 use Rattle.dm_invariant.specs.Moves.{IsMoved, MoveKept, ReuseKept, TargetInHand}
 use Rattle.dm_invariant.specs.OnceLive.{MountOnce, OnceLive}
 use Rattle.dm_invariant.specs.Places.{ChunkCovers, Doubted, Has, HasKept, HasTarget, Kept, Live, Owner, Target, TargetCovers}
@@ -83,6 +85,40 @@ live_once entries contents taken requests g committed deleted s epoch b row c is
             let e = k.places (Live b c.offset) (Target job) c.vsn.0 place
             (record { row = row; is = is; chunk = c; among = among; at = refl; covers = covers }) has in cc;
       };
+    }
+
+-- ---- reads that give what is known
+
+version_first : (v : ℕ) → IsVersion v → has_sum v ≡ false → nat_eq v first_version ≡ true
+version_first v is none =
+    let low = is.low in
+    let high = is.high in
+    let differs : v ≡ second_version → ⊥ = λ same. let e = eq-eqb v second_version same in cc in
+    eq-eqb v first_version (omega (arith, low, high, differs))
+
+bound_at : (faithful : List ℕ) (o : Option VolumeRow) (v : VolumeRow) → o ≡ Some v → nat_eq v.version first_version ≡ true
+    → is_bound faithful o ≡ true
+bound_at faithful None v is first = cc
+bound_at faithful (Some w) v is first =
+    let same : w ≡ v = cc in
+    or_left _ _ (ap (λ (x : VolumeRow). nat_eq x.version first_version) same ∙ first)
+
+-- a live chunk has bytes; and where it has no sum, it stands on a volume whose reads give what is known
+pub live_reads : (entries : Numbered Entry) (contents : Numbered (List ℕ)) (taken : Numbered (Unit {0})) (requests : Numbered OpenRequest)
+    (g : ℕ) (committed deleted : Numbered (Unit {0})) (s : Side) (b : ℕ) (row : BitfileRow) (c : Chunk)
+    → map.get s.group.tables.bitfiles b ≡ Some row → Among c row.chunks
+    → SideKept entries contents taken requests g committed deleted s
+    → ReadsChunk c (is_bound s.faithful (map.get s.group.tables.volumes c.vsn.0))
+live_reads entries contents taken requests g committed deleted s b row c is among k =
+    let file = k.catalogue.bitfile b row is in
+    let lies = file.lies c among in
+    let volume = k.volumes.volume c.vsn.0 lies.volume lies.is in
+    record {
+      some = chunk_some 0 row.len row.chunks c file.joins among;
+      known = λ none.
+          let unsummed : has_sum lies.volume.version ≡ false = sym lies.sum ∙ ap is_some none in
+          bound_at s.faithful (map.get s.group.tables.volumes c.vsn.0) lies.volume lies.is
+          (version_first lies.volume.version volume.version unsummed);
     }
 
 -- ---- what a move needs
@@ -250,6 +286,7 @@ side_move_opened entries contents taken requests g committed deleted s h job sou
     ∙ get-beside numbers s.mounts x.source a q (other_number s.mounts x.source q s.group.next_mount y k.mounts.numbers first is) ∙ is in
     let once = once_more u t.volumes job x opens.zone contents s.images s.group.reservations s.group.moves source_epoch x.bfid.0 x.from ends
     (live_once entries contents taken requests g committed deleted s source_epoch x.bfid.0 opens.row x.from opens.is opens.among k) in
+    let reads = live_reads entries contents taken requests g committed deleted s x.bfid.0 opens.row x.from opens.is opens.among k in
     let drives = opens.drives in
     let one_drive = drive_taken s.group.mounts x.source (mounted_of a) (conf.drives - 1) (omega (arith, drives)) in
     let z = opens.zone in
@@ -272,6 +309,7 @@ side_move_opened entries contents taken requests g committed deleted s h job sou
             (each-insert numbers (λ q (y : MountState). y.vsn.0 ≡ x.to.vsn.0 → ⊥) s.mounts x.source a opens.differ opens.target_free)
             (apart_more s.mounts x.source a opens.source_free k.mounts.apart);
         drives = drive_taken (map.insert s.group.mounts x.source (mounted_of a)) x.target (mounted_of b) conf.drives (omega (arith, one_drive, drives));
+        reads = two_more (λ q y. MayRead y.origin y.bound) s.mounts x.source x.target a b reads tt k.mounts.reads;
         origin = two_more (λ q y. OriginKept conf s.group.reservations s.copies more s.group.reuses q y.vsn y.origin) s.mounts x.source x.target a b
             (record { moving = x; is = get-here numbers s.group.moves job x; source = refl; bfid = refl; from = refl; volume = refl })
             (record {

@@ -322,6 +322,7 @@ side_reservation_opened entries contents taken requests g committed deleted s h 
         epoch = k.mounts.epoch;
         apart = k.mounts.apart;
         drives = k.mounts.drives;
+        reads = k.mounts.reads;
         origin = λ m x at. origin_more s.group.reservations s.copies n r opens.copy free opens.is opens.has conf s.group.moves s.group.reuses m x.vsn
             x.origin (k.mounts.origin m x at);
       };

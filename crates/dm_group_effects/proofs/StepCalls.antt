@@ -215,30 +215,32 @@ module _ (j : Joint) (kept : Kept j) (w : ℕ) (g : GroupId) (s : Side) (side : 
             let of = subst (λ (v : Vsn). IsOfConf s.group.conf v.0) volume
             (new_configured s m y.0.vsn y.0.origin y.0.labelled (own.mounts.origin m y.0 y.1) labelled) in
             let slot = slot_free t.volumes s.group.conf.volumes volumes_limit x.vsn.0 (λ v row there. (own.volumes.volume v row there).configured)
-            own.volumes.fits.many of new in
-            (refl, record {
-              now = record {
-                may = record {
-                  follow = record {
-                    time = omega arith;
-                    step = record {
-                      new = new;
-                      within = slot.within;
-                      free = slot.free;
-                      known = own.volumes.fits.format;
-                      room = own.volumes.fits.sized;
+            own.volumes.fits.many of new in (
+              refl,
+              record {
+                now = record {
+                  may = record {
+                    follow = record {
+                      time = omega arith;
+                      step = record {
+                        new = new;
+                        within = slot.within;
+                        free = slot.free;
+                        known = own.volumes.fits.format;
+                        room = own.volumes.fits.sized;
+                      };
+                    };
+                    needs = record {
+                      configured = of;
+                      sized = refl;
+                      unmounted = unmounted_after s.mounts m y.0 x.vsn.0 y.1 (ap (λ (v : Vsn). v.0) volume) own.mounts.apart;
                     };
                   };
-                  needs = record {
-                    configured = of;
-                    sized = refl;
-                    unmounted = unmounted_after s.mounts m y.0 x.vsn.0 y.1 (ap (λ (v : Vsn). v.0) volume) own.mounts.apart;
-                  };
+                  places = places_without t.bitfiles s.group.reservations s.group.moves s.group.doubt _ (λ c put. put) own.places;
                 };
-                places = places_without t.bitfiles s.group.reservations s.group.moves s.group.doubt _ (λ c put. put) own.places;
-              };
-              lasting = λ b e there dropping not puts. puts;
-            });
+                lasting = λ b e there dropping not puts. puts;
+              },
+            );
       })
 
   -- ---- a reservation
@@ -335,29 +337,31 @@ module _ (j : Joint) (kept : Kept j) (w : ℕ) (g : GroupId) (s : Side) (side : 
         let free = use_free tip (room_in u vsn.0 v) v.held three.0 in
         let volume = own.volumes.volume vsn.0 v is in
         let label = volume.label in
-        let end = volume.end in
-        (refl, record {
-          now = record {
-            may = record {
-              follow = record {
-                time = omega arith;
-                step = record { volume = v; is = is; usable = free; dead = is_not _ three.1 };
-              };
-              needs = record {
-                unused = record {
-                  unmounted = unmounted_of s.group.mounts s.mounts vsn.0 own.mounts.same (is_not _ one.1);
-                  unreserved = unreserved_of s.group.reservations vsn.0 (is_not _ two.1);
+        let end = volume.end in (
+          refl,
+          record {
+            now = record {
+              may = record {
+                follow = record {
+                  time = omega arith;
+                  step = record { volume = v; is = is; usable = free; dead = is_not _ three.1 };
                 };
-                filled = λ x at.
-                    let same : v ≡ x = same_row (map.get t.volumes vsn.0) v x is at in
-                    let differs = use_tip tip (room_in u vsn.0 v) v.held three.0 in
-                    subst (λ (y : VolumeRow). first_zone < tip_in s.group.tips vsn.0 y) same (above (tip_in s.group.tips vsn.0 v) label end differs);
+                needs = record {
+                  unused = record {
+                    unmounted = unmounted_of s.group.mounts s.mounts vsn.0 own.mounts.same (is_not _ one.1);
+                    unreserved = unreserved_of s.group.reservations vsn.0 (is_not _ two.1);
+                  };
+                  filled = λ x at.
+                      let same : v ≡ x = same_row (map.get t.volumes vsn.0) v x is at in
+                      let differs = use_tip tip (room_in u vsn.0 v) v.held three.0 in
+                      subst (λ (y : VolumeRow). first_zone < tip_in s.group.tips vsn.0 y) same (above (tip_in s.group.tips vsn.0 v) label end differs);
+                };
               };
+              places = places_without t.bitfiles s.group.reservations s.group.moves s.group.doubt _ (λ c put. put) own.places;
             };
-            places = places_without t.bitfiles s.group.reservations s.group.moves s.group.doubt _ (λ c put. put) own.places;
-          };
-          lasting = λ c e there dropping not puts. puts;
-        });
+            lasting = λ c e there dropping not puts. puts;
+          },
+        );
   })
     where
       is_not : (b : Bool) → not b ≡ true → b ≡ false
@@ -427,35 +431,37 @@ module _ (j : Joint) (kept : Kept j) (w : ℕ) (g : GroupId) (s : Side) (side : 
         let time : ℕ = group_time s.group now in
         let later : greater k.reading.0 t.time.0 ≤ time = omega (arith, before) in
         let ready = ready_later (greater k.reading.0 t.time.0) time s.group.conf.hold (tip_in s.group.tips x.vsn.0 k.volume) k.volume.held later k.ready in
-        let volume = own.volumes.volume x.vsn.0 k.volume k.known in
-        (refl, record {
-          now = record {
-            may = record {
-              follow = record {
-                time = omega arith;
-                step = record {
-                  volume = k.volume;
-                  is = k.known;
-                  ready = held_or_empty time s.group.conf.hold (tip_in s.group.tips x.vsn.0 k.volume) k.volume.end k.volume.held volume.label
-                      volume.end ready;
-                  dead = ready_dead time x.vsn.0 k.volume k.known ready;
-                  next = k.next;
-                  left = k.left;
-                  known = k.version;
+        let volume = own.volumes.volume x.vsn.0 k.volume k.known in (
+          refl,
+          record {
+            now = record {
+              may = record {
+                follow = record {
+                  time = omega arith;
+                  step = record {
+                    volume = k.volume;
+                    is = k.known;
+                    ready = held_or_empty time s.group.conf.hold (tip_in s.group.tips x.vsn.0 k.volume) k.volume.end k.volume.held volume.label
+                        volume.end ready;
+                    dead = ready_dead time x.vsn.0 k.volume k.known ready;
+                    next = k.next;
+                    left = k.left;
+                    known = k.version;
+                  };
+                };
+                needs = record {
+                  unused = record {
+                    unmounted = unmounted_after s.mounts m k.mount x.vsn.0 k.is (ap (λ (v : Vsn). v.0) k.same) own.mounts.apart;
+                    unreserved = ready_unreserved time x.vsn.0 k.volume k.known ready;
+                  };
+                  ready = λ v at.
+                      let same = same_row (map.get t.volumes x.vsn.0) k.volume v k.known at in
+                      subst (λ (y : VolumeRow). IsReadyAt time s.group.conf.hold (tip_in s.group.tips x.vsn.0 y) y.held) same ready;
                 };
               };
-              needs = record {
-                unused = record {
-                  unmounted = unmounted_after s.mounts m k.mount x.vsn.0 k.is (ap (λ (v : Vsn). v.0) k.same) own.mounts.apart;
-                  unreserved = ready_unreserved time x.vsn.0 k.volume k.known ready;
-                };
-                ready = λ v at.
-                    let same = same_row (map.get t.volumes x.vsn.0) k.volume v k.known at in
-                    subst (λ (y : VolumeRow). IsReadyAt time s.group.conf.hold (tip_in s.group.tips x.vsn.0 y) y.held) same ready;
-              };
+              places = places_without t.bitfiles s.group.reservations s.group.moves s.group.doubt _ (λ c put. put) own.places;
             };
-            places = places_without t.bitfiles s.group.reservations s.group.moves s.group.doubt _ (λ c put. put) own.places;
-          };
-          lasting = λ c e there dropping not puts. puts;
-        });
+            lasting = λ c e there dropping not puts. puts;
+          },
+        );
   })

@@ -1,3 +1,10 @@
-//! What each event of a group and each event on a volume does to the invariant: lemmas on what opens, on what is journalled,
-//! and on whole calls, answered or failed.
+//! What each event of a group keeps of the joint state: its calls, answered or failed, and its steps in doubt.
+//!
+//! A call is proved by the parts of its plan: what it spends, journals and makes, each of which keeps the group's side where the
+//! call's guards hold. A reservation and a move are here whole, with the tips that rise and the places behind them. What is
+//! proved of whole events is the contract of a function that does nothing, with its lemmas in `proofs/`.
 #![tactic(auto)]
+
+mod laws;
+
+pub use laws::group_keeps;

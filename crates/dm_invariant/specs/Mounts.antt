@@ -1,5 +1,5 @@
 -- The invariant, of the mounts of a group.
-use Rattle.std.specs.Prelude.{◌≡◌, ◌≤◌, ◌<◌, ℕ, Some}
+use Rattle.std.specs.Prelude.{◌≡◌, ◌≤◌, ◌<◌, ℕ, Bool, true, None, Some}
 use Rattle.std.specs.Option.{option_map}
 use Rattle.std.specs.FinMap as map
 use Rattle.dm_base.specs.declared.conf.GroupConf.{GroupConf}
@@ -84,6 +84,19 @@ OriginKept conf reservations copies moves reuses m vsn (origin.Source job b c) =
 OriginKept conf reservations copies moves reuses m vsn (origin.Target job b total c version) = TargetMount moves m job b total c version vsn
 OriginKept conf reservations copies moves reuses m vsn (origin.Reuse next_epoch version reading) = ReuseMount reuses m next_epoch version vsn
 
+-- a chunk that is read under a mount has bytes; and where it has no sum, reads of the mount give what is known
+pub record ReadsChunk (c : Chunk) (bound : Bool) : Type 0 where
+  pub some : 0 < c.len
+  pub known : c.sum ≡ None → bound ≡ true
+
+abbrev pub MayRead : Origin → Bool → Type 0
+MayRead (origin.New listed format) bound = Unit {0}
+MayRead (origin.Piece b index p chunk) bound = Unit {0}
+MayRead (origin.Chunk b c) bound = ReadsChunk c bound
+MayRead (origin.Source job b c) bound = ReadsChunk c bound
+MayRead (origin.Target job b total c version) bound = Unit {0}
+MayRead (origin.Reuse next_epoch version reading) bound = Unit {0}
+
 -- what is kept of mounts
 pub record MountsKept (conf : GroupConf) (volumes : Named VolumeRow) (reservations : Numbered Reserved) (copies : Numbered CopyState)
     (moves : Numbered Moving) (reuses : Numbered Reusing) (group_mounts : Numbered Mounted) (next : ℕ) (mounts : Numbered MountState) : Type 0 where
@@ -95,3 +108,4 @@ pub record MountsKept (conf : GroupConf) (volumes : Named VolumeRow) (reservatio
   pub apart : (m n : ℕ) (x y : MountState) → map.get mounts m ≡ Some x → map.get mounts n ≡ Some y → x.vsn.0 ≡ y.vsn.0 → m ≡ n
   pub drives : map.len group_mounts ≤ conf.drives
   pub origin : EachRow mounts (λ m x. OriginKept conf reservations copies moves reuses m x.vsn x.origin)
+  pub reads : EachRow mounts (λ m x. MayRead x.origin x.bound)

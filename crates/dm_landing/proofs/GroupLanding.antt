@@ -59,6 +59,7 @@ side_as entries contents taken requests g committed more deleted s t tips images
         epoch = λ m x is. k.mounts.epoch m x is ∙ sym (on.epochs m x is);
         apart = k.mounts.apart;
         drives = k.mounts.drives;
+        reads = k.mounts.reads;
         origin = k.mounts.origin;
       };
       once = λ m x is. mount_once_onward old.volumes t.volumes s.group.tips tips s.images images contents s.group.reservations s.group.moves

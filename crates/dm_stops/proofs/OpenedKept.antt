@@ -62,6 +62,7 @@ mounts_none d h g s k none = record {
   apart = k.mounts;
   drives = k.drives;
   origin = each_of_empty nat_cmp _ s.mounts none;
+  reads = each_of_empty nat_cmp _ s.mounts none;
 }
 
 reservations_none : (g : ℕ) (entries : Numbered Entry) (contents : Numbered (List ℕ)) (requests : Numbered OpenRequest)

@@ -1,0 +1,24 @@
+//! What is proved, as contracts of functions that do nothing.
+ghost use Rattle.std.specs.Prelude.{◌≡◌, ℕ, List};
+ghost use Rattle.std.specs.List.{AllByRecursion};
+ghost use Rattle.dm_group_effects.specs.OfGroup.{IsOfGroup};
+ghost use Rattle.dm_invariant.specs.Kept.{Kept};
+ghost use Rattle.dm_invariant.specs.Opened.{Fits};
+ghost use Rattle.dm_invariant.specs.Sound.{Sound};
+ghost use Rattle.dm_model.specs.declared.answer.Answer.{Answer};
+ghost use Rattle.dm_model.specs.declared.call.Event.{Event};
+ghost use Rattle.dm_model.specs.declared.state.Joint.{Joint};
+ghost use Rattle.dm_model.specs.Step.{Entered, Run, Stepped, step};
+
+/// What is kept of a state is kept by each legal event of a group: by each call of its library server, answered or failed, by
+/// its step in doubt that landed, and by a look (docs/DEFINITIONS.md, "The invariant"). So it is by a run of them, which ends
+/// in a sound state that fits its configuration.
+pub fn group_keeps()
+    ensures events { (j k : Joint) (w : ℕ) (e : Event) (a : Answer) → Kept j → IsOfGroup e → step j w e ≡ Stepped k a → Kept k }
+    ensures runs { (j : Joint) (entries : List Entered) (k : Joint) → Kept j → AllByRecursion (λ e. IsOfGroup e.event) entries
+        → Run j entries k → Kept k }
+    ensures sound { (j : Joint) (entries : List Entered) (k : Joint) → Kept j → AllByRecursion (λ e. IsOfGroup e.event) entries
+        → Run j entries k → Sound k }
+    ensures fits { (j : Joint) (entries : List Entered) (k : Joint) → Kept j → AllByRecursion (λ e. IsOfGroup e.event) entries
+        → Run j entries k → Fits k }
+{}
