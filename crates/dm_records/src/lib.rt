@@ -16,7 +16,7 @@ pub use kinds::{RowKind, StepKind};
 pub use laws::{payloads_are_short, spelled_once};
 pub use logs::{put_head, put_record, put_upgrade, read_log, record_len};
 pub use names::{FirstName, SecondName};
-pub use rows::{RowOf, kind_of_row, put_row, read_row, row_len};
+pub use rows::{LentRow, kind_of_row, put_row, read_row, row_len};
 pub use steps::{fields_len, kind_of, put_fields, read_fields};
 
 #[cfg(test)]

@@ -17,7 +17,7 @@ use std::alloc::Global;
 
 /// A row that a checkpoint writes, lent by the tables. Rows of version 1 are not among them: they are only read.
 #[derive(Drop)]
-pub enum RowOf<'a> {
+pub enum LentRow<'a> {
     /// What the tables have once.
     State {
         time: Secs,
@@ -56,20 +56,20 @@ pub enum RowOf<'a> {
 }
 
 /// The kind of a row.
-pub fn kind_of_row(row: &RowOf<'_>) -> RowKind
+pub fn kind_of_row(row: &LentRow<'_>) -> RowKind
     ensures { result ≡ row_kind (row_of row.now) }
 {
     match row {
-        RowOf::State { .. } => RowKind::State,
-        RowOf::File { .. } => RowKind::File,
-        RowOf::Bitfile { .. } => RowKind::Bitfile,
-        RowOf::Dump { .. } => RowKind::Dump,
-        RowOf::DumpFile { .. } => RowKind::DumpFile,
+        LentRow::State { .. } => RowKind::State,
+        LentRow::File { .. } => RowKind::File,
+        LentRow::Bitfile { .. } => RowKind::Bitfile,
+        LentRow::Dump { .. } => RowKind::Dump,
+        LentRow::DumpFile { .. } => RowKind::DumpFile,
     }
 }
 
 /// How many bytes a row has.
-pub fn row_len(row: &RowOf<'_>) -> usize
+pub fn row_len(row: &LentRow<'_>) -> usize
     requires { length (row_spelling (row_of row.now)) < 2 ^ 64 }
     ensures { result ≡ length (row_spelling (row_of row.now)) }
 {
@@ -77,7 +77,7 @@ pub fn row_len(row: &RowOf<'_>) -> usize
 }
 
 /// Writes a row behind the first `at` bytes, and answers where it ends.
-pub fn put_row(row: &RowOf<'_>, out: &mut [u8], at: usize) -> usize
+pub fn put_row(row: &LentRow<'_>, out: &mut [u8], at: usize) -> usize
     requires fits { FitsRow (row_of row.now) }
     requires room { at + length (row_spelling (row_of row.now)) ≤ length out.old }
     ensures { IsPut (row_spelling (row_of row.now)) at out.old out.new result }
@@ -104,12 +104,12 @@ pub fn read_row(alloc: Global, bytes: &[u8]) -> Result<DaemonRow, ReadError>
 }
 
 // How many bytes the fields of a row have.
-fn row_fields_len(row: &RowOf<'_>) -> usize
+fn row_fields_len(row: &LentRow<'_>) -> usize
     requires { length (row_fields (row_of row.now)) < 2 ^ 64 }
     ensures { result ≡ length (row_fields (row_of row.now)) }
 {
     match row {
-        RowOf::State {
+        LentRow::State {
             time,
             change,
             counter,
@@ -118,24 +118,24 @@ fn row_fields_len(row: &RowOf<'_>) -> usize
             begun_age,
             age,
         } => state_fields(*time, *change, *counter, *site, *first, *begun_age, *age).spelled_len(),
-        RowOf::File { path, ino, inode } => (
+        LentRow::File { path, ino, inode } => (
             *path,
             (*ino, (inode.change, &inode.contents)),
         ).spelled_len(),
-        RowOf::Bitfile { bfid, entry } => (*bfid, *entry).spelled_len(),
-        RowOf::Dump { name, made, least } => (*name, (*made, *least)).spelled_len(),
-        RowOf::DumpFile { name, path, file } => (*name, (*path, *file)).spelled_len(),
+        LentRow::Bitfile { bfid, entry } => (*bfid, *entry).spelled_len(),
+        LentRow::Dump { name, made, least } => (*name, (*made, *least)).spelled_len(),
+        LentRow::DumpFile { name, path, file } => (*name, (*path, *file)).spelled_len(),
     }
 }
 
 // Writes the fields of a row.
-fn put_row_fields(row: &RowOf<'_>, out: &mut [u8], at: usize) -> usize
+fn put_row_fields(row: &LentRow<'_>, out: &mut [u8], at: usize) -> usize
     requires fits { FitsRow (row_of row.now) }
     requires room { at + length (row_fields (row_of row.now)) ≤ length out.old }
     ensures { IsPut (row_fields (row_of row.now)) at out.old out.new result }
 {
     match row {
-        RowOf::State {
+        LentRow::State {
             time,
             change,
             counter,
@@ -144,12 +144,12 @@ fn put_row_fields(row: &RowOf<'_>, out: &mut [u8], at: usize) -> usize
             begun_age,
             age,
         } => state_fields(*time, *change, *counter, *site, *first, *begun_age, *age).put(out, at),
-        RowOf::File { path, ino, inode } => (*path, (*ino, (inode.change, &inode.contents))).put(
+        LentRow::File { path, ino, inode } => (*path, (*ino, (inode.change, &inode.contents))).put(
             out, at,
         ),
-        RowOf::Bitfile { bfid, entry } => (*bfid, *entry).put(out, at),
-        RowOf::Dump { name, made, least } => (*name, (*made, *least)).put(out, at),
-        RowOf::DumpFile { name, path, file } => (*name, (*path, *file)).put(out, at),
+        LentRow::Bitfile { bfid, entry } => (*bfid, *entry).put(out, at),
+        LentRow::Dump { name, made, least } => (*name, (*made, *least)).put(out, at),
+        LentRow::DumpFile { name, path, file } => (*name, (*path, *file)).put(out, at),
     }
 }
 

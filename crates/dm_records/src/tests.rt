@@ -352,7 +352,7 @@ fn is_begun(time: Secs, change: u64, counter: u64, site: u64, first: u64, age: u
 }
 
 // The row, lent. One of version 1 is never written.
-fn lent(row: &DaemonRow) -> Option<RowOf<'_>>
+fn lent(row: &DaemonRow) -> Option<LentRow<'_>>
     ensures { IfSome result (λ lent. row_of lent ≡ row.now) }
 {
     match row {
@@ -364,7 +364,7 @@ fn lent(row: &DaemonRow) -> Option<RowOf<'_>>
             first,
             begun_age,
             age,
-        } => Some(RowOf::State {
+        } => Some(LentRow::State {
             time: *time,
             change: *change,
             counter: *counter,
@@ -373,18 +373,18 @@ fn lent(row: &DaemonRow) -> Option<RowOf<'_>>
             begun_age: *begun_age,
             age: *age,
         }),
-        DaemonRow::File { path, ino, inode } => Some(RowOf::File {
+        DaemonRow::File { path, ino, inode } => Some(LentRow::File {
             path,
             ino: *ino,
             inode,
         }),
-        DaemonRow::Bitfile { bfid, entry } => Some(RowOf::Bitfile { bfid: *bfid, entry }),
-        DaemonRow::Dump { name, made, least } => Some(RowOf::Dump {
+        DaemonRow::Bitfile { bfid, entry } => Some(LentRow::Bitfile { bfid: *bfid, entry }),
+        DaemonRow::Dump { name, made, least } => Some(LentRow::Dump {
             name,
             made: *made,
             least: *least,
         }),
-        DaemonRow::DumpFile { name, path, file } => Some(RowOf::DumpFile { name, path, file }),
+        DaemonRow::DumpFile { name, path, file } => Some(LentRow::DumpFile { name, path, file }),
         DaemonRow::OldState { .. } => None,
         DaemonRow::OldDump { .. } => None,
     }
