@@ -19,3 +19,4 @@ pub mod SummedChunks
 pub mod CommitCall
 pub mod MoveCall
 pub mod GroupEvents
+pub mod VolumeCalls

@@ -1,1 +1,2 @@
 pub mod OfGroup
+pub mod OnVolume
