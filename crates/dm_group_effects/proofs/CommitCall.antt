@@ -1,5 +1,5 @@
 -- A commit keeps the joint state, where every piece of its reservation was written with its zone and the sums are right.
-use Rattle.std.proofs.Common.{◌≡◌, ◌≢◌, ◌⊎◌, ℕ, suc, ◌+◌, ◌-◌, ◌≤◌, ◌<◌, true, false, cond, Option, Some, None, is_some, List, [], ◌∷◌, length, take, drop, refl, sym, ap, subst}
+use Rattle.std.proofs.Common.{◌≡◌, ◌⊎◌, ℕ, suc, ◌+◌, ◌-◌, ◌≤◌, ◌<◌, true, cond, Option, Some, None, is_some, List, [], ◌∷◌, length, take, drop, refl, sym, ap, subst}
 use Rattle.std.proofs.Common.{◌∙◌, inl, inr, arith}
 use Rattle.std.proofs.lemmas.Bool.{ne_eqb, and_parts}
 use Rattle.std.proofs.lemmas.Bool.Decides.{nat_tests}
@@ -18,20 +18,16 @@ use Rattle.dm_tables.specs.Rows.{EachRow}
 use Rattle.dm_tables.proofs.Orders.{numbers}
 use Rattle.dm_tables.proofs.Rows.{one_row, removed}
 use Rattle.dm_durable.specs.Tables.{Numbered, Named}
-use Rattle.dm_durable.specs.GroupConditions.{Joins, LiesOn, MayCommit}
+use Rattle.dm_durable.specs.GroupConditions.{LiesOn, MayCommit}
 use Rattle.dm_durable.specs.declared.daemon.Entry.{Entry}
-use Rattle.dm_durable.specs.declared.group.BitfileRow.{BitfileRow}
 use Rattle.dm_durable.specs.declared.group.GroupRecord.{GroupRecord}
 use Rattle.dm_durable.specs.declared.group.GroupStep.TheVariants as step
 use Rattle.dm_durable.specs.declared.group.VolumeRow.{VolumeRow}
 use Rattle.dm_durable.specs.Volumes.{tip_in}
 use Rattle.dm_model.specs.declared.plan.Ending.TheVariants as ending
-use Rattle.dm_model.specs.declared.state.CopyReservation.{CopyReservation}
-use Rattle.dm_model.specs.declared.state.CopyState.{CopyState}
 use Rattle.dm_model.specs.declared.state.GroupHistory.{GroupHistory}
 use Rattle.dm_model.specs.declared.state.Image.{Image}
 use Rattle.dm_model.specs.declared.state.Joint.{Joint}
-use Rattle.dm_model.specs.declared.state.Moving.{Moving}
 use Rattle.dm_model.specs.declared.state.OpenRequest.{OpenRequest}
 use Rattle.dm_model.specs.declared.state.Reserved.{Reserved}
 use Rattle.dm_model.specs.declared.state.Side.{Side}
@@ -41,7 +37,7 @@ use Rattle.dm_model.specs.GroupCalls.{all_written, are_sums_of, are_written, com
 use Rattle.dm_model.specs.SideShare.{side_after_ending}
 use Rattle.dm_invariant.specs.Among.{Among}
 use Rattle.dm_invariant.specs.Assemble.{ChunkKnown, SumRight, known_on}
-use Rattle.dm_invariant.specs.Doubts.{CommitNeeds, NotInGroup}
+use Rattle.dm_invariant.specs.Doubts.{CommitNeeds}
 use Rattle.dm_invariant.specs.Kept.{Kept, SideKept, committed_in, deleted_in}
 use Rattle.dm_invariant.specs.Places.{ChunkCovers, Doubted, Has, HasKept, Kept as KeptPlace, Live, Owner, PlacesKept, Target}
 use Rattle.dm_invariant.specs.Requests.{RequestEntry}
@@ -54,7 +50,7 @@ use Rattle.dm_group_effects.proofs.GroupPlans.{CallKept, never_kept, step_kept}
 use Rattle.dm_group_effects.proofs.MountCalls.{reservation_ends}
 use Rattle.dm_group_effects.proofs.PartsKept.{Pays}
 use Rattle.dm_group_effects.proofs.SideChanges.{KeptAs}
-use Rattle.dm_group_effects.proofs.SummedChunks.{Summed, same_sums_are, sum_right, sum_there, summed_are, summed_join, summed_of, with_sum}
+use Rattle.dm_group_effects.proofs.SummedChunks.{same_sums_are, sum_right, sum_there, summed_are, summed_join, summed_of, with_sum}
 use Rattle.dm_group_effects.proofs.ZoneBytes.{chunk_known}
 use Rattle.dm_group_effects.proofs.ZoneChunks.{ChunkInside, chunk_inside, chunks_apart}
 

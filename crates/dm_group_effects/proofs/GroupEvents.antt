@@ -1,5 +1,5 @@
 -- Each legal event of a group keeps the invariant, and so does each run of them.
-use Rattle.std.proofs.Common.{◌≡◌, ℕ, Bool, true, false, ◌&&◌, Option, Some, None, is_some, List, [], ◌∷◌, option_map, refl, sym, subst}
+use Rattle.std.proofs.Common.{◌≡◌, ℕ, Bool, ◌&&◌, Option, Some, None, is_some, List, [], ◌∷◌, option_map, refl, subst}
 use Rattle.std.specs.List.{AllByRecursion}
 use Rattle.std.specs.FinMap as map
 use Rattle.dm_base.specs.declared.identifier.GroupId.{GroupId}
@@ -18,9 +18,8 @@ use Rattle.dm_model.specs.declared.plan.Payload.TheVariants as payload
 use Rattle.dm_model.specs.declared.state.Joint.{Joint}
 use Rattle.dm_model.specs.declared.state.Side.{Side}
 use Rattle.dm_model.specs.GroupCalls.{group_needs, group_plan, no_group}
-use Rattle.dm_model.specs.Guards.{AllHold}
 use Rattle.dm_model.specs.Plan.{Needs, Plan, guards_always, guards_of, guards_of_fault, illegal_call, illegal_fault, nothing, prepared, refusal_of}
-use Rattle.dm_model.specs.Step.{Entered, Outcome, Run, Stepped, after_call, after_fault, after_landing, called, faulted, group_doubt, landed_doubt, landed_in, looked, looked_in, outcome_of, side_needs, side_plan, step}
+use Rattle.dm_model.specs.Step.{Entered, Run, Stepped, after_call, after_fault, after_landing, called, faulted, group_doubt, landed_doubt, landed_in, looked, looked_in, outcome_of, side_needs, side_plan, step}
 use Rattle.dm_invariant.specs.Kept.{Kept}
 use Rattle.dm_effects.proofs.BeginningCalls.{front_holds}
 use Rattle.dm_group_effects.specs.OfGroup.{IsOfGroup}
@@ -67,7 +66,7 @@ side_call_kept j kept w g c (Some s) is = group_call_kept j kept w g s is c
 -- ---- events
 
 -- an event that is answered was legal, and came to that state
-outcome_is : (o : Option Guard) (after k : Joint) (b a : Answer) → outcome_of o after b ≡ Stepped k a → (o ≡ None) × (after ≡ k)
+pub outcome_is : (o : Option Guard) (after k : Joint) (b a : Answer) → outcome_of o after b ≡ Stepped k a → (o ≡ None) × (after ≡ k)
 outcome_is None after k b a is = (refl, cc)
 outcome_is (Some guard) after k b a is = absurd (cc)
 

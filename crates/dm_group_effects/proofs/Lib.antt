@@ -20,3 +20,4 @@ pub mod CommitCall
 pub mod MoveCall
 pub mod GroupEvents
 pub mod VolumeCalls
+pub mod VolumeEvents

@@ -1,5 +1,5 @@
 -- The calls of a group that choose a volume keep the joint state: the reuse of one that is ready, and the move of a chunk.
-use Rattle.std.proofs.Common.{◌≡◌, ◌⊎◌, inl, inr, ℕ, suc, ◌+◌, ◌-◌, ◌≤◌, ◌<◌, ◌||◌, ◌&&◌, Bool, true, false, cond, nat_eq, nat_lt, nat_le, not, Option, Some, None, is_some, List, [], ◌∷◌, ◌++◌, length, refl, sym, ap, subst, ◌∙◌, arith}
+use Rattle.std.proofs.Common.{◌≡◌, ◌⊎◌, inl, inr, ℕ, ◌+◌, ◌-◌, Bool, true, false, cond, nat_eq, nat_le, Option, Some, None, is_some, List, [], ◌∷◌, length, refl, sym, ap, subst, ◌∙◌, arith}
 use Rattle.std.specs.Prelude as prelude
 use Rattle.std.specs.Prelude.{if◌then◌else◌}
 use Rattle.std.specs.List.{AllByRecursion, filter, flat_map, list_all}
@@ -10,8 +10,7 @@ use Rattle.dm_base.specs.declared.identifier.GroupId.{GroupId}
 use Rattle.dm_base.specs.declared.identifier.Secs.{Secs}
 use Rattle.dm_base.specs.declared.serial.TheConstants.{VSN_LENGTH}
 use Rattle.dm_base.specs.declared.serial.Vsn.{Vsn}
-use Rattle.dm_base.specs.declared.volume.Chunk.{Chunk}
-use Rattle.dm_base.specs.declared.volume.VolState.TheVariants.{Empty, Filling, Full, Held}
+use Rattle.dm_base.specs.declared.volume.VolState.TheVariants.{Empty, Filling, Full}
 use Rattle.dm_rules.specs.declared.space.Space.{Space}
 use Rattle.dm_rules.specs.Label.{first_zone}
 use Rattle.dm_rules.specs.Merge.{is_ready}
@@ -23,13 +22,11 @@ use Rattle.dm_durable.specs.declared.group.BitfileRow.{BitfileRow}
 use Rattle.dm_durable.specs.declared.group.VolumeRow.{VolumeRow}
 use Rattle.dm_durable.specs.Group.{is_on}
 use Rattle.dm_durable.specs.Limits.{IsPast}
-use Rattle.dm_durable.specs.Tables.{Named, Numbered, same_text}
-use Rattle.dm_durable.specs.Volumes.{LiveChunk, Usage, chunk_moved_to, chunks_on, destination_in, epoch_or, first_on, further_in_front, is_listed, is_reusable_in, least_placed, live_chunk, of_serial, reusable_in, room_in, tip_in}
+use Rattle.dm_durable.specs.Tables.{Named, Numbered}
+use Rattle.dm_durable.specs.Volumes.{LiveChunk, Usage, chunks_on, destination_in, epoch_or, first_on, further_in_front, is_listed, is_reusable_in, least_placed, live_chunk, of_serial, reusable_in, room_in, tip_in}
 use Rattle.dm_model.specs.declared.guard.Guard.TheVariants as guard
 use Rattle.dm_model.specs.declared.state.GroupHistory.{GroupHistory}
 use Rattle.dm_model.specs.declared.state.Joint.{Joint}
-use Rattle.dm_model.specs.declared.state.Moving.{Moving}
-use Rattle.dm_model.specs.declared.state.Reusing.{Reusing}
 use Rattle.dm_model.specs.declared.state.Side.{Side}
 use Rattle.dm_model.specs.GroupCalls.{group_time, merge_first, merge_next, merge_to, reuse_first, reuse_next}
 use Rattle.dm_model.specs.Guards.{Guarded}
@@ -47,7 +44,7 @@ use Rattle.dm_group_effects.proofs.GroupPlans.{CallKept, opening_kept, step_kept
 use Rattle.dm_group_effects.proofs.MountCalls.{asking_kept, healed_side, mountable, unmounted_of}
 use Rattle.dm_group_effects.proofs.MoveOpened.{chunk_some, side_move_opened}
 use Rattle.dm_group_effects.proofs.SideChanges.{KeptAs}
-use Rattle.dm_group_effects.proofs.Spaces.{Destination, destination_is}
+use Rattle.dm_group_effects.proofs.Spaces.{destination_is}
 use Rattle.dm_group_effects.proofs.TipsMoved.{new_target}
 
 -- ---- lists

@@ -1,5 +1,5 @@
 -- The calls of a group that mount, unmount, give up, or only tell keep the joint state.
-use Rattle.std.proofs.Common.{◌≡◌, ◌⊎◌, inl, inr, ℕ, suc, ◌+◌, ◌-◌, ◌≤◌, ◌||◌, ◌&&◌, Bool, true, false, cond, nat_eq, nat_lt, not, Option, Some, None, List, [], ◌∷◌, ◌++◌, option_map, refl, sym, ap, subst, ◌∙◌, arith}
+use Rattle.std.proofs.Common.{◌≡◌, inl, inr, ℕ, ◌+◌, ◌-◌, ◌≤◌, ◌||◌, Bool, true, false, cond, nat_eq, nat_lt, not, Option, Some, None, List, option_map, refl, sym, ap, subst, ◌∙◌, arith}
 use Rattle.std.proofs.Common.{eqb-true, leb-true, ltb-false}
 use Rattle.std.proofs.lemmas.Bool.{and_parts, or_parts}
 use Rattle.std.specs.FinMap as map
@@ -16,14 +16,12 @@ use Rattle.dm_durable.specs.declared.group.BitfileRow.{BitfileRow}
 use Rattle.dm_durable.specs.declared.group.GroupRecord.{GroupRecord}
 use Rattle.dm_durable.specs.declared.group.GroupStep.{GroupStep}
 use Rattle.dm_durable.specs.declared.group.GroupStep.TheVariants as step
-use Rattle.dm_durable.specs.declared.group.VolumeRow.{VolumeRow}
 use Rattle.dm_durable.specs.Group.{chunk_at}
 use Rattle.dm_durable.specs.GroupConditions.{MayGroupStep}
 use Rattle.dm_durable.specs.Tables.{Numbered, same_text}
 use Rattle.dm_model.specs.declared.answer.Answer.{Answer}
 use Rattle.dm_model.specs.declared.state.CopyReservation.{CopyReservation}
 use Rattle.dm_model.specs.declared.state.CopyState.{CopyState}
-use Rattle.dm_model.specs.declared.state.Group.{Group}
 use Rattle.dm_model.specs.declared.state.GroupHistory.{GroupHistory}
 use Rattle.dm_model.specs.declared.state.Joint.{Joint}
 use Rattle.dm_model.specs.declared.state.Mounted.{Mounted}
@@ -43,7 +41,7 @@ use Rattle.dm_invariant.specs.Doubts.{GroupMayLandIf, GroupStepNeeds}
 use Rattle.dm_invariant.specs.Kept.{Kept, committed_in, deleted_in}
 use Rattle.dm_invariant.specs.Mounts.{mounted_of}
 use Rattle.dm_invariant.specs.Reservations.{ZoneInHand}
-use Rattle.dm_invariant.proofs.Options.{none_some, same_row}
+use Rattle.dm_invariant.proofs.Options.{none_some}
 use Rattle.dm_invariant.proofs.Texts.{same_texts}
 use Rattle.dm_landing.proofs.VolumeChunkLists.{chunk_among}
 use Rattle.dm_landing.proofs.VolumesOnward.{piece_among}
@@ -52,7 +50,7 @@ use Rattle.dm_effects.proofs.MountOpened.{DoubtTakes, Takes, side_mount_opened}
 use Rattle.dm_effects.proofs.MoveEnded.{side_move_ended}
 use Rattle.dm_effects.proofs.ReservationEnded.{ReservationEnds, side_reservation_ended}
 use Rattle.dm_effects.proofs.Settled.{side_healed}
-use Rattle.dm_group_effects.proofs.GroupPlans.{CallKept, IsStep, never_kept, opening_kept, step_kept}
+use Rattle.dm_group_effects.proofs.GroupPlans.{CallKept, never_kept, opening_kept, step_kept}
 use Rattle.dm_group_effects.proofs.MoveOpened.{live_once, live_reads}
 use Rattle.dm_group_effects.proofs.SideChanges.{KeptAs}
 

@@ -1,11 +1,10 @@
 -- A move that is done keeps the joint state, where its chunk still stands, was read, and its zone was written.
-use Rattle.std.proofs.Common.{◌≡◌, ◌≢◌, ◌⊎◌, ℕ, suc, ◌+◌, ◌-◌, ◌≤◌, ◌<◌, ◌&&◌, Bool, true, false, cond, not, nat_eq, Option, Some, None, is_some, List, [], ◌∷◌, length, take, drop, refl, sym, ap, subst}
-use Rattle.std.proofs.Common.{◌∙◌, inl, inr, arith, eqb-true, length-take, length-drop}
+use Rattle.std.proofs.Common.{◌≡◌, ◌⊎◌, ℕ, ◌+◌, ◌≤◌, ◌<◌, Bool, true, false, not, Option, Some, None, is_some, List, length, refl, sym, ap, subst}
+use Rattle.std.proofs.Common.{◌∙◌, inl, inr, arith, eqb-true}
 use Rattle.std.proofs.lemmas.Bool.{and_parts}
 use Rattle.std.specs.FinMap as map
 use Rattle.dm_base.specs.declared.identifier.GroupId.{GroupId}
 use Rattle.dm_base.specs.declared.identifier.Secs.{Secs}
-use Rattle.dm_base.specs.declared.serial.Vsn.{Vsn}
 use Rattle.dm_base.specs.declared.volume.Chunk.{Chunk}
 use Rattle.dm_base.specs.declared.volume.Piece.{Piece}
 use Rattle.dm_rules.specs.Known.{known_bytes}
@@ -23,7 +22,6 @@ use Rattle.dm_durable.specs.Group.{chunk_at}
 use Rattle.dm_durable.specs.GroupConditions.{MayMove}
 use Rattle.dm_durable.specs.Tables.{Named, Numbered}
 use Rattle.dm_durable.specs.Volumes.{tip_in}
-use Rattle.dm_model.specs.declared.plan.Ending.TheVariants as ending
 use Rattle.dm_model.specs.declared.state.GroupHistory.{GroupHistory}
 use Rattle.dm_model.specs.declared.state.Image.{Image}
 use Rattle.dm_model.specs.declared.state.Joint.{Joint}
@@ -31,9 +29,7 @@ use Rattle.dm_model.specs.declared.state.MountState.{MountState}
 use Rattle.dm_model.specs.declared.state.Moving.{Moving}
 use Rattle.dm_model.specs.declared.state.OpenRequest.{OpenRequest}
 use Rattle.dm_model.specs.declared.state.Side.{Side}
-use Rattle.dm_model.specs.Effects.{after_ending}
-use Rattle.dm_model.specs.GroupCalls.{chunk_in, group_time, is_chunk, is_moved, move_done, move_done_needs, part_of, same_chunk, same_sum, was_moved}
-use Rattle.dm_model.specs.SideShare.{side_after_ending}
+use Rattle.dm_model.specs.GroupCalls.{chunk_in, is_chunk, is_moved, move_done, move_done_needs, part_of, same_chunk, same_sum, was_moved}
 use Rattle.dm_invariant.specs.Assemble.{ChunkKnown, IsSumOf, known_on}
 use Rattle.dm_invariant.specs.Catalogue.{BitfileKept, LiesBefore}
 use Rattle.dm_invariant.specs.Doubts.{PutNeeds}
@@ -45,7 +41,6 @@ use Rattle.dm_invariant.proofs.Texts.{texts_equal}
 use Rattle.dm_landing.proofs.VolumeChunkLists.{chunk_among, joins_within}
 use Rattle.dm_effects.proofs.MoveEnded.{side_move_ended}
 use Rattle.dm_group_effects.proofs.GroupPlans.{CallKept, never_kept, step_kept}
-use Rattle.dm_group_effects.proofs.PartsKept.{Pays}
 use Rattle.dm_group_effects.proofs.SideChanges.{KeptAs}
 use Rattle.dm_group_effects.proofs.SummedChunks.{sum_right, sum_there}
 use Rattle.dm_group_effects.proofs.ZoneBytes.{chunk_known}

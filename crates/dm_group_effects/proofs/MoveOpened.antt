@@ -1,14 +1,12 @@
 -- A move begins, with its two mounts: the tip of the target rises, and the zone of the moved chunk has the places behind it. A
 -- side is kept where both volumes aren't mounted, drives are free, and nothing is in doubt.
-use Rattle.std.proofs.Common.{◌≡◌, ◌≢◌, ◌⊎◌, ℕ, suc, ◌+◌, ◌-◌, ◌<◌, ◌≤◌, true, false, nat_eq, is_some, eq-eqb, Some, None, Option, List, [], ◌∷◌, refl, sym, ap, subst, ◌∙◌, arith, inl, inr}
+use Rattle.std.proofs.Common.{◌≡◌, ◌⊎◌, ℕ, suc, ◌+◌, ◌-◌, ◌<◌, ◌≤◌, true, false, nat_eq, is_some, eq-eqb, Some, None, Option, List, [], ◌∷◌, refl, sym, ap, subst, ◌∙◌, arith, inl, inr}
 use Rattle.std.proofs.lemmas.Bool.{or_left}
 use Rattle.std.specs.FinMap as map
 use Rattle.dm_base.specs.declared.conf.GroupConf.{GroupConf}
-use Rattle.dm_base.specs.declared.identifier.Bfid.{Bfid}
 use Rattle.dm_base.specs.declared.identifier.GroupId.{GroupId}
 use Rattle.dm_base.specs.declared.serial.Vsn.{Vsn}
 use Rattle.dm_base.specs.declared.volume.Chunk.{Chunk}
-use Rattle.dm_rules.specs.Numbers.{narrowed}
 use Rattle.dm_rules.specs.Version.{IsVersion, first_version, has_sum, second_version}
 use Rattle.dm_rules.specs.Zone.{weight}
 use Rattle.dm_tables.specs.Rows.{EachRow}
@@ -38,9 +36,9 @@ use Rattle.dm_model.specs.Volumes.{usage_of}
 use Rattle.dm_invariant.specs.Among.{Among}
 use Rattle.dm_invariant.specs.Kept.{SideKept}
 use Rattle.dm_invariant.specs.Mounts.{MayRead, OriginKept, ReadsChunk, mounted_of}
-use Rattle.dm_invariant.specs.Moves.{IsMoved, MoveKept, ReuseKept, TargetInHand}
+use Rattle.dm_invariant.specs.Moves.{IsMoved, MoveKept}
 use Rattle.dm_invariant.specs.OnceLive.{MountOnce, OnceLive}
-use Rattle.dm_invariant.specs.Places.{ChunkCovers, Doubted, Has, HasKept, HasTarget, Kept, Live, Owner, Target, TargetCovers}
+use Rattle.dm_invariant.specs.Places.{Doubted, Has, HasTarget, Kept, Live, Owner, Target, TargetCovers}
 use Rattle.dm_invariant.proofs.LookUps.{beside_free}
 use Rattle.dm_effects.proofs.MountEnded.{move_left, reuse_left}
 use Rattle.dm_effects.proofs.MountOpened.{apart_more, drive_taken, other_number, same_mounts_more}

@@ -1,5 +1,5 @@
 -- A new zone begins at the tip of its volume, and all that has places lies before the tips: so no place of it is another's.
-use Rattle.std.proofs.Common.{◌≡◌, ◌⊎◌, ℕ, ◌<◌, ◌≤◌, ◌+◌, List, Option, Some, None, inl, inr, refl, sym, ap, subst, ◌∙◌, arith}
+use Rattle.std.proofs.Common.{◌≡◌, ◌⊎◌, ℕ, ◌<◌, ◌≤◌, List, Option, Some, None, inl, inr, refl, sym, ap, subst, ◌∙◌, arith}
 use Rattle.std.specs.FinMap as map
 use Rattle.dm_base.specs.declared.conf.GroupConf.{GroupConf}
 use Rattle.dm_base.specs.declared.volume.Chunk.{Chunk}
@@ -7,19 +7,16 @@ use Rattle.dm_base.specs.declared.volume.Piece.{Piece}
 use Rattle.dm_tables.specs.Rows.{EachRow}
 use Rattle.dm_tables.proofs.Rows.{one_row}
 use Rattle.dm_durable.specs.declared.daemon.Entry.{Entry}
-use Rattle.dm_durable.specs.declared.group.BitfileRow.{BitfileRow}
 use Rattle.dm_durable.specs.declared.group.GroupRecord.{GroupRecord}
 use Rattle.dm_durable.specs.declared.group.VolumeRow.{VolumeRow}
 use Rattle.dm_durable.specs.Tables.{Named, Numbered}
 use Rattle.dm_durable.specs.Volumes.{Usage, tip_in}
-use Rattle.dm_model.specs.declared.state.Moving.{Moving}
 use Rattle.dm_model.specs.declared.state.OpenRequest.{OpenRequest}
-use Rattle.dm_model.specs.declared.state.Reserved.{Reserved}
 use Rattle.dm_model.specs.declared.state.Side.{Side}
 use Rattle.dm_invariant.specs.Catalogue.{LiesBefore}
 use Rattle.dm_invariant.specs.Kept.{SideKept}
 use Rattle.dm_invariant.specs.Moves.{TargetInHand}
-use Rattle.dm_invariant.specs.Places.{ChunkCovers, Doubted, Has, IsDoubted, Kept, Live, Owner, PieceCovers, PlacesKept, Target, TargetCovers}
+use Rattle.dm_invariant.specs.Places.{ChunkCovers, Doubted, Has, IsDoubted, Kept, Live, Owner, PieceCovers, Target, TargetCovers}
 use Rattle.dm_invariant.specs.Reservations.{ZoneInHand}
 use Rattle.dm_invariant.specs.Volumes.{VolumeKept}
 use Rattle.dm_group_effects.proofs.TipsMoved.{NewZone}

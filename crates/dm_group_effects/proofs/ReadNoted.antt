@@ -4,7 +4,7 @@ use Rattle.std.proofs.Common.{◌≡◌, ℕ, true, false, Bool, cond, nat_eq, O
 use Rattle.std.specs.FinMap as map
 use Rattle.dm_base.specs.declared.identifier.Bfid.{Bfid}
 use Rattle.dm_base.specs.declared.identifier.GroupId.{GroupId}
-use Rattle.dm_tables.specs.Rows.{EachRow, adjust, map_values}
+use Rattle.dm_tables.specs.Rows.{EachRow, adjust}
 use Rattle.dm_tables.proofs.Adjusted.{adjusted, each-adjust, each-map, mapped}
 use Rattle.dm_tables.proofs.Orders.{numbers}
 use Rattle.dm_tables.proofs.Rows.{each-empty, each-insert}

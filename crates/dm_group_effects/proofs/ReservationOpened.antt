@@ -1,6 +1,6 @@
 -- A reservation begins: tips rise, and the new zones have places behind them. A side is kept where there is room, the copy has
 -- no reservation yet, and nothing is in doubt.
-use Rattle.std.proofs.Common.{◌≡◌, ◌≢◌, ◌⊎◌, ℕ, ◌+◌, ◌<◌, ◌≤◌, Some, None, Option, List, refl, sym, ap, subst, ◌∙◌, arith, inl, inr}
+use Rattle.std.proofs.Common.{◌≡◌, ◌⊎◌, ℕ, ◌+◌, ◌<◌, ◌≤◌, Some, None, Option, List, refl, sym, ap, subst, ◌∙◌, arith, inl, inr}
 use Rattle.std.specs.FinMap as map
 use Rattle.dm_base.specs.declared.conf.GroupConf.{GroupConf}
 use Rattle.dm_base.specs.declared.identifier.Bfid.{Bfid}
@@ -12,7 +12,7 @@ use Rattle.dm_rules.specs.Plan.{rooms}
 use Rattle.dm_tables.specs.Rows.{EachRow, adjust}
 use Rattle.dm_tables.proofs.Adjusted.{adjusted, adjusted-beside, adjusted_row}
 use Rattle.dm_tables.proofs.Orders.{numbers}
-use Rattle.dm_tables.proofs.Rows.{each-beside, each-empty, get-here, inserted, one_row}
+use Rattle.dm_tables.proofs.Rows.{each-beside, each-empty, get-here, inserted}
 use Rattle.dm_durable.specs.declared.daemon.Entry.{Entry}
 use Rattle.dm_durable.specs.declared.group.BitfileRow.{BitfileRow}
 use Rattle.dm_durable.specs.declared.group.GroupRecord.{GroupRecord}
@@ -38,7 +38,7 @@ use Rattle.dm_invariant.specs.Among.{Among}
 use Rattle.dm_invariant.specs.Kept.{SideKept}
 use Rattle.dm_invariant.specs.Mounts.{OriginKept}
 use Rattle.dm_invariant.specs.OnceLive.{MountOnce, OnceLive}
-use Rattle.dm_invariant.specs.Places.{ChunkCovers, Doubted, Has, HasKept, Kept, Live, Owner, PieceCovers, Target}
+use Rattle.dm_invariant.specs.Places.{Doubted, Has, HasKept, Kept, Live, Owner, PieceCovers, Target}
 use Rattle.dm_invariant.specs.Reservations.{CopyKept, ReservationKept, ZoneInHand}
 use Rattle.dm_invariant.specs.Volumes.{VolumeKept}
 use Rattle.dm_invariant.proofs.LookUps.{beside_free}
@@ -48,7 +48,7 @@ use Rattle.dm_effects.proofs.ReuseOpened.{nothing_in_doubt}
 use Rattle.dm_group_effects.proofs.PlacesMore.{BeforeTip, beyond_tip, end_before, owner_before, places_more}
 use Rattle.dm_group_effects.proofs.Spaces.{pieces_whole}
 use Rattle.dm_group_effects.proofs.TipsMoved.{LaidOut, laid_out}
-use Rattle.dm_group_effects.proofs.TipsRisen.{side_tips_risen, with_tips}
+use Rattle.dm_group_effects.proofs.TipsRisen.{side_tips_risen}
 
 -- the reservation of so many bytes of a bitfile
 abbrev pub reserved_for : Group → Bfid → ℕ → Reserved

@@ -1,8 +1,7 @@
 -- One group's side changes, and what that group has done: the joint state is kept where the side is, and where a step of the
 -- daemon in doubt still finds there what it needs.
-use Rattle.std.proofs.Common.{◌≡◌, ◌≢◌, ℕ, true, false, Option, Some, None, IsSome, is_some, List, refl, sym, ap, ◌∙◌, subst, inl, inr}
+use Rattle.std.proofs.Common.{◌≡◌, ◌≢◌, ℕ, true, false, Option, Some, None, IsSome, is_some, List, sym, ap, ◌∙◌, subst, inl, inr}
 use Rattle.std.specs.FinMap as map
-use Rattle.dm_base.specs.declared.identifier.GroupId.{GroupId}
 use Rattle.dm_tables.specs.Rows.{EachRow}
 use Rattle.dm_tables.proofs.Orders.{numbers, same_or}
 use Rattle.dm_durable.specs.declared.daemon.DaemonRecord.{DaemonRecord}
@@ -11,13 +10,12 @@ use Rattle.dm_durable.specs.declared.daemon.DaemonStep.TheVariants.{Write, Remov
 use Rattle.dm_durable.specs.declared.daemon.DaemonTables.{DaemonTables}
 use Rattle.dm_durable.specs.declared.daemon.Entry.{Entry}
 use Rattle.dm_durable.specs.DaemonConditions.{MayStep}
-use Rattle.dm_durable.specs.Entries.{groups_asked}
 use Rattle.dm_durable.specs.Tables.{Numbered}
 use Rattle.dm_model.specs.declared.state.GroupHistory.{GroupHistory}
 use Rattle.dm_model.specs.declared.state.Joint.{Joint}
 use Rattle.dm_model.specs.declared.state.OpenRequest.{OpenRequest}
 use Rattle.dm_model.specs.declared.state.Side.{Side}
-use Rattle.dm_invariant.specs.Doubts.{AllConfigured, DoubtPuts, InGroup, MayLandIf, NotInGroup, StepNeeds}
+use Rattle.dm_invariant.specs.Doubts.{DoubtPuts, InGroup, MayLandIf, NotInGroup, StepNeeds}
 use Rattle.dm_invariant.specs.Kept.{Kept, SideKept, committed_in, deleted_in}
 use Rattle.dm_invariant.proofs.Options.{has_value, same_row}
 

@@ -1,6 +1,6 @@
 -- The volumes of a group that may take pieces or a moved chunk, and the pieces that a bitfile is cut into on them.
 use Rattle.std.proofs.Common.{◌≡◌, ◌⊎◌, inl, inr, ℕ, zero, suc, ◌+◌, ◌-◌, ◌*◌, ◌<◌, ◌≤◌, ◌&&◌, ◌||◌, Bool, true, false, cond, T, Option, Some, None, List, [], ◌∷◌, ◌++◌, length}
-use Rattle.std.proofs.Common.{nat_eq, refl, sym, ap, subst, ◌∙◌, zero-add, arith, Less, nat_cmp, eqb-true}
+use Rattle.std.proofs.Common.{nat_eq, refl, sym, ap, subst, ◌∙◌, zero-add, arith, Less, nat_cmp}
 use Rattle.std.specs.Prelude.{find, nat_le}
 use Rattle.std.specs.FinMap as map
 use Rattle.std.specs.Cmp.{tied_itself}
@@ -15,7 +15,7 @@ use Rattle.dm_base.specs.declared.serial.TheConstants.{VSN_LENGTH}
 use Rattle.dm_base.specs.declared.serial.Vsn.{Vsn}
 use Rattle.dm_base.specs.declared.volume.Piece.{Piece}
 use Rattle.dm_rules.specs.declared.space.Space.{Space}
-use Rattle.dm_rules.specs.Merge.{destination, first_with_room, or_else}
+use Rattle.dm_rules.specs.Merge.{first_with_room, or_else}
 use Rattle.dm_rules.specs.Numbers.{lesser}
 use Rattle.dm_rules.specs.Plan.{rooms, pieces_of}
 use Rattle.dm_rules.specs.Room.{room, most_bytes}

@@ -1,9 +1,9 @@
 -- The calls of a group that add, free and use volumes again, delete, and reserve keep the joint state.
-use Rattle.std.proofs.Common.{◌≡◌, ◌≢◌, ◌⊎◌, inl, inr, ℕ, suc, ◌+◌, ◌-◌, ◌≤◌, ◌<◌, ◌||◌, ◌&&◌, Bool, true, false, cond, nat_eq, nat_lt, nat_le, not, Option, Some, None, IsSome, is_some, is_none, List, [], ◌∷◌, ◌++◌, option_map, refl, sym, ap, subst, ◌∙◌, arith}
+use Rattle.std.proofs.Common.{◌≡◌, ◌⊎◌, inl, inr, ℕ, ◌+◌, ◌≤◌, ◌<◌, Bool, true, false, nat_eq, not, Option, Some, None, IsSome, is_some, List, option_map, refl, sym, ap, subst, ◌∙◌, arith}
 use Rattle.std.specs.Prelude.{if◌then◌else◌}
 use Rattle.std.specs.List.{list_any}
 use Rattle.std.proofs.Common.{eqb-true, eq-eqb, leb-true, ltb-false}
-use Rattle.std.proofs.lemmas.Bool.{and_parts, or_parts}
+use Rattle.std.proofs.lemmas.Bool.{and_parts}
 use Rattle.std.specs.FinMap as map
 use Rattle.dm_base.specs.Limits.{volumes_limit}
 use Rattle.dm_base.specs.declared.identifier.Bfid.{Bfid}
@@ -12,9 +12,8 @@ use Rattle.dm_base.specs.declared.identifier.Secs.{Secs}
 use Rattle.dm_base.specs.declared.serial.Vsn.{Vsn}
 use Rattle.dm_base.specs.declared.volume.Chunk.{Chunk}
 use Rattle.dm_base.specs.declared.volume.Piece.{Piece}
-use Rattle.dm_base.specs.declared.volume.VolState.TheVariants.{Empty, Filling, Full, Held}
+use Rattle.dm_base.specs.declared.volume.VolState.TheVariants.{Empty, Filling, Full}
 use Rattle.dm_rules.specs.Label.{first_zone}
-use Rattle.dm_rules.specs.Merge.{is_freeable}
 use Rattle.dm_rules.specs.Numbers.{greater}
 use Rattle.dm_rules.specs.Plan.{rooms}
 use Rattle.dm_rules.specs.State.{is_in_use, state_of}
@@ -24,14 +23,12 @@ use Rattle.dm_tables.proofs.Orders.{numbers}
 use Rattle.dm_tables.proofs.Rows.{removed, removed-here}
 use Rattle.dm_durable.specs.declared.group.BitfileRow.{BitfileRow}
 use Rattle.dm_durable.specs.declared.group.GroupRecord.{GroupRecord}
-use Rattle.dm_durable.specs.declared.group.GroupStep.{GroupStep}
 use Rattle.dm_durable.specs.declared.group.GroupStep.TheVariants as step
 use Rattle.dm_durable.specs.declared.group.VolumeRow.{VolumeRow}
 use Rattle.dm_durable.specs.Group.{has_chunk_on, is_on}
-use Rattle.dm_durable.specs.Tables.{Named, Numbered, same_text}
-use Rattle.dm_durable.specs.Volumes.{free_slot, is_freeable_in, room_in, spaces, state_in, tip_in}
+use Rattle.dm_durable.specs.Tables.{Numbered, same_text}
+use Rattle.dm_durable.specs.Volumes.{is_freeable_in, room_in, spaces, tip_in}
 use Rattle.dm_model.specs.declared.call.Component.TheVariants as component
-use Rattle.dm_model.specs.declared.plan.Ending.TheVariants as ending
 use Rattle.dm_model.specs.declared.plan.Payload.TheVariants as payload
 use Rattle.dm_model.specs.declared.state.CopyState.{CopyState}
 use Rattle.dm_model.specs.declared.state.GroupHistory.{GroupHistory}
@@ -45,28 +42,27 @@ use Rattle.dm_model.specs.declared.state.Origin.TheVariants as origin
 use Rattle.dm_model.specs.declared.state.Reserved.{Reserved}
 use Rattle.dm_model.specs.declared.state.Reusing.{Reusing}
 use Rattle.dm_model.specs.declared.state.Side.{Side}
-use Rattle.dm_model.specs.Effects.{after_ending, after_failed_mark, after_healing, after_mark, after_payload, doubting}
+use Rattle.dm_model.specs.Effects.{after_healing, after_payload}
 use Rattle.dm_model.specs.GroupCalls.{add_volume, add_volume_needs, delete_needs, delete_of, free, free_of, group_time, is_labelled_new, is_new_label, is_of_move, is_reuse_label, may_reserve, may_unmount, reserve, reserve_needs, reuse, reuse_needs, was_relabelled}
 use Rattle.dm_model.specs.Plan.{nothing}
-use Rattle.dm_model.specs.SideShare.{side_after_ending, side_after_payload, side_without_doubt}
-use Rattle.dm_model.specs.Volumes.{has_piece_on, is_mounted, is_reserved, usage_of}
+use Rattle.dm_model.specs.SideShare.{side_after_payload, side_without_doubt}
+use Rattle.dm_model.specs.Volumes.{has_piece_on, is_reserved, usage_of}
 use Rattle.dm_model.proofs.Shares.{healing-at, payload-at}
 use Rattle.dm_invariant.specs.Among.{Among}
-use Rattle.dm_invariant.specs.Doubts.{IsUnused}
 use Rattle.dm_invariant.specs.Kept.{Kept, committed_in, deleted_in}
 use Rattle.dm_invariant.specs.Mounts.{OriginKept, mounted_of}
 use Rattle.dm_invariant.specs.Moves.{IsReadyAt}
 use Rattle.dm_invariant.specs.Places.{Doubted, Has, IsPut, Kept as KeptPlace, Live, Owner, PlacesKept, Target}
 use Rattle.dm_invariant.specs.Volumes.{IsOfConf}
 use Rattle.dm_invariant.proofs.Lists.{one_passes, passing}
-use Rattle.dm_invariant.proofs.Options.{no_value, none_of, none_some, same_row}
+use Rattle.dm_invariant.proofs.Options.{no_value, none_of, same_row}
 use Rattle.dm_invariant.proofs.Texts.{same_texts, texts_equal}
 use Rattle.dm_group_effects.proofs.FreeSlots.{slot_free}
 use Rattle.dm_group_effects.proofs.GroupPlans.{CallKept, doubted_keeps, never_kept, opening_kept, step_kept}
 use Rattle.dm_group_effects.proofs.MountCalls.{healed_side, unmounted_of, unmounted_side}
 use Rattle.dm_group_effects.proofs.MoveOpened.{chunk_some}
-use Rattle.dm_group_effects.proofs.PartsKept.{Pays, deleted_keeps, doubting_keeps, healing_keeps, landing_keeps}
-use Rattle.dm_group_effects.proofs.ReservationOpened.{reserved_for, side_reservation_opened}
+use Rattle.dm_group_effects.proofs.PartsKept.{Pays, deleted_keeps, healing_keeps, landing_keeps}
+use Rattle.dm_group_effects.proofs.ReservationOpened.{side_reservation_opened}
 use Rattle.dm_group_effects.proofs.SideChanges.{KeptAs}
 
 -- ---- places of a record that puts nothing on volumes

@@ -1,5 +1,5 @@
 -- The chunks of a reservation with their sums.
-use Rattle.std.proofs.Common.{◌≡◌, ◌⊎◌, ℕ, zero, suc, ◌+◌, ◌-◌, ◌<◌, Bool, true, false, cond, Option, Some, None, is_some, List, [], ◌∷◌, ◌++◌, length, drop, refl, sym, ap, subst, ◌∙◌, inl, inr}
+use Rattle.std.proofs.Common.{◌≡◌, ℕ, zero, suc, ◌+◌, ◌-◌, ◌<◌, Bool, true, false, cond, Some, None, is_some, List, [], ◌∷◌, ◌++◌, length, drop, refl, ap, subst, ◌∙◌, inl, inr}
 use Rattle.std.specs.Prelude as prelude
 use Rattle.std.specs.List.{flat_map}
 use Rattle.std.proofs.lemmas.Bool.{and_parts}
@@ -12,7 +12,7 @@ use Rattle.dm_rules.specs.Zone.{chunk_count, chunk_sum, zone_header}
 use Rattle.dm_durable.specs.GroupConditions.{Joins}
 use Rattle.dm_model.specs.GroupCalls.{part_of, piece_sums, same_sums, summed_chunks, with_sums}
 use Rattle.dm_invariant.specs.Among.{Among}
-use Rattle.dm_invariant.specs.Assemble.{IsSumOf, SumRight}
+use Rattle.dm_invariant.specs.Assemble.{IsSumOf}
 use Rattle.dm_invariant.specs.Reservations.{PiecesJoin}
 use Rattle.dm_invariant.proofs.Lists.{among_either, mapped_among}
 use Rattle.dm_invariant.proofs.Texts.{texts_equal}

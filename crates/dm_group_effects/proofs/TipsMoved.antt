@@ -1,7 +1,6 @@
 -- The tips of volumes as the pieces of a reservation are laid out, and as a moved chunk gets a zone.
 use Rattle.std.proofs.Common.{◌≡◌, ◌≢◌, inl, inr, ℕ, ◌+◌, ◌<◌, ◌≤◌, Bool, true, false, cond, Some, None, List, [], ◌∷◌, refl, sym, ap, subst, ◌∙◌, arith}
 use Rattle.std.specs.FinMap as map
-use Rattle.dm_base.specs.declared.conf.GroupConf.{GroupConf}
 use Rattle.dm_base.specs.declared.volume.Piece.{Piece}
 use Rattle.dm_rules.specs.declared.space.Space.{Space}
 use Rattle.dm_rules.specs.Numbers.{last_u64, narrowed}
@@ -17,9 +16,9 @@ use Rattle.dm_durable.specs.Volumes.{Usage, spaces, tip_in, tip_or}
 use Rattle.dm_model.specs.declared.state.Group.{Group}
 use Rattle.dm_model.specs.declared.state.Reusing.{Reusing}
 use Rattle.dm_model.specs.GroupShare.{tips_behind}
-use Rattle.dm_model.specs.Volumes.{is_being_reused, usage_of}
+use Rattle.dm_model.specs.Volumes.{usage_of}
 use Rattle.dm_invariant.specs.Among.{Among}
-use Rattle.dm_invariant.specs.Volumes.{VolumeKept, VolumesKept}
+use Rattle.dm_invariant.specs.Volumes.{VolumesKept}
 use Rattle.dm_group_effects.proofs.Spaces.{PieceFrom, SpaceOf, one_on_volume, pieces_from, spaces_apart, spaces_are, zone_fits, zone_longer}
 use Rattle.dm_group_effects.proofs.TipsRisen.{TipsRise}
 

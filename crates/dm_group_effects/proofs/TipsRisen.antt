@@ -1,12 +1,10 @@
 -- Tips of volumes rise: a side is kept where they stay within the volumes, and where those of volumes stay that are about to be
 -- used again.
-use Rattle.std.proofs.Common.{◌≡◌, ℕ, ◌≤◌, true, List, None, Some, Option, refl, sym, ap, subst, ◌∙◌, arith}
+use Rattle.std.proofs.Common.{◌≡◌, ℕ, ◌≤◌, true, List, None, Some, refl, sym, subst, arith}
 use Rattle.std.specs.FinMap as map
 use Rattle.dm_base.specs.declared.conf.GroupConf.{GroupConf}
 use Rattle.dm_base.specs.declared.volume.Piece.{Piece}
 use Rattle.dm_rules.specs.Numbers.{greater}
-use Rattle.dm_rules.specs.Plan.{zone_end}
-use Rattle.dm_rules.specs.Zone.{weight}
 use Rattle.dm_tables.proofs.Any.{any-some}
 use Rattle.dm_tables.proofs.Orders.{numbers}
 use Rattle.dm_durable.specs.declared.daemon.Entry.{Entry}
@@ -18,7 +16,7 @@ use Rattle.dm_model.specs.declared.state.Reusing.{Reusing}
 use Rattle.dm_model.specs.declared.state.Side.{Side}
 use Rattle.dm_model.specs.Volumes.{is_being_reused}
 use Rattle.dm_invariant.specs.Kept.{SideKept}
-use Rattle.dm_invariant.specs.Moves.{IsReadyAt, TargetInHand}
+use Rattle.dm_invariant.specs.Moves.{IsReadyAt}
 use Rattle.dm_invariant.specs.Reservations.{ZoneInHand}
 use Rattle.dm_invariant.specs.Volumes.{VolumeKept}
 use Rattle.dm_invariant.proofs.Texts.{same_texts}

@@ -1,10 +1,10 @@
 -- Each legal call on a volume keeps the joint state, answered or failed.
-use Rattle.std.proofs.Common.{◌≡◌, ℕ, zero, suc, ◌+◌, ◌-◌, ◌≤◌, ◌<◌, ◌&&◌, ◌||◌, Bool, true, false, cond, not, nat_eq, Option, Some, None, IsSome, is_some, List, [], ◌∷◌, ◌++◌, length, take, drop, refl}
+use Rattle.std.proofs.Common.{◌≡◌, ℕ, zero, suc, ◌+◌, ◌≤◌, ◌&&◌, ◌||◌, Bool, true, false, cond, not, nat_eq, Option, Some, None, IsSome, is_some, List, [], ◌∷◌, ◌++◌, length, drop, refl}
 use Rattle.std.proofs.Common.{sym, ap, ◌∙◌, subst, arith, eqb-true, length-take, length-drop}
 use Rattle.std.specs.FinMap as map
 use Rattle.std.specs.List.{Contains}
 use Rattle.std.proofs.lemmas.Bool.{and_parts}
-use Rattle.std.proofs.lemmas.List.Elements.{Contains-append_left, Contains-append_right}
+use Rattle.std.proofs.lemmas.List.Elements.{Contains-append_right}
 use Rattle.dm_base.specs.declared.conf.GroupConf.{GroupConf}
 use Rattle.dm_base.specs.declared.identifier.Bfid.{Bfid}
 use Rattle.dm_base.specs.declared.identifier.GroupId.{GroupId}
@@ -15,18 +15,15 @@ use Rattle.dm_rules.specs.Known.{Known, agrees, byte_and, known_bytes}
 use Rattle.dm_rules.specs.Label.{first_zone, label}
 use Rattle.dm_rules.specs.Zone.{weight, zone_length}
 use Rattle.dm_rules.proofs.Knowledge.{agrees-known_bytes}
-use Rattle.dm_durable.specs.declared.group.VolumeRow.{VolumeRow}
-use Rattle.dm_durable.specs.Tables.{Named, Numbered, same_text}
+use Rattle.dm_durable.specs.Tables.{Numbered, same_text}
 use Rattle.dm_durable.specs.Volumes.{epoch_or}
 use Rattle.dm_model.specs.declared.call.VolumeCall.{VolumeCall}
 use Rattle.dm_model.specs.declared.call.VolumeCall.TheVariants as call
-use Rattle.dm_model.specs.declared.plan.Mark.{Mark}
 use Rattle.dm_model.specs.declared.plan.Mark.TheVariants as mark
 use Rattle.dm_model.specs.declared.state.GroupHistory.{GroupHistory}
 use Rattle.dm_model.specs.declared.state.Image.{Image}
 use Rattle.dm_model.specs.declared.state.Joint.{Joint}
 use Rattle.dm_model.specs.declared.state.MountState.{MountState}
-use Rattle.dm_model.specs.declared.state.Moving.{Moving}
 use Rattle.dm_model.specs.declared.state.Origin.{Origin}
 use Rattle.dm_model.specs.declared.state.Origin.TheVariants as origin
 use Rattle.dm_model.specs.declared.state.Side.{Side}
@@ -37,10 +34,9 @@ use Rattle.dm_model.specs.Guards.{AllHold}
 use Rattle.dm_model.specs.Plan.{guards_always, guards_of, prepared, refusal_of}
 use Rattle.dm_model.specs.Step.{after_call, after_fault}
 use Rattle.dm_model.specs.VolumeCalls.{has_sum_of, is_planned_label, is_read_of, is_zone_place, mount_in, read_mark, volume_needs, volume_plan, zone_mark}
-use Rattle.dm_invariant.specs.Among.{Among}
 use Rattle.dm_invariant.specs.Assemble.{IsSumOf, known_of, known_on}
 use Rattle.dm_invariant.specs.Kept.{Kept, committed_in, deleted_in}
-use Rattle.dm_invariant.specs.Mounts.{MayRead, OriginKept, PieceMount, ReadsChunk, SourceMount, TargetMount}
+use Rattle.dm_invariant.specs.Mounts.{MayRead, OriginKept, PieceMount, ReadsChunk, TargetMount}
 use Rattle.dm_invariant.specs.Moves.{ReadPart}
 use Rattle.dm_invariant.specs.OnceLive.{MountOnce, OnceLive, StillThere}
 use Rattle.dm_invariant.specs.Requests.{PartAt}
@@ -52,7 +48,6 @@ use Rattle.dm_effects.proofs.LabelMarked.{side_label_failed, side_labelled}
 use Rattle.dm_effects.proofs.SourceMarked.{SourceFits, side_source_read}
 use Rattle.dm_effects.proofs.TargetMarked.{TargetFits, side_target_failed, side_target_written}
 use Rattle.dm_effects.proofs.ZoneMarked.{ZoneFits, side_zone_failed, side_zone_written}
-use Rattle.dm_group_effects.proofs.GroupPlans.{CallKept, doubted_keeps, never_kept}
 use Rattle.dm_group_effects.proofs.PartsKept.{failed_mark_keeps, mark_keeps}
 use Rattle.dm_group_effects.proofs.ReadNoted.{ReadFits, read_keeps}
 use Rattle.dm_group_effects.proofs.SideChanges.{KeptAs}

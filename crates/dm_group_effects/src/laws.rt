@@ -2,6 +2,7 @@
 ghost use Rattle.std.specs.Prelude.{◌≡◌, ℕ, List};
 ghost use Rattle.std.specs.List.{AllByRecursion};
 ghost use Rattle.dm_group_effects.specs.OfGroup.{IsOfGroup};
+ghost use Rattle.dm_group_effects.specs.OnVolume.{IsOnVolume, ReadTellsApart, ReadsTellApart};
 ghost use Rattle.dm_invariant.specs.Kept.{Kept};
 ghost use Rattle.dm_invariant.specs.Opened.{Fits};
 ghost use Rattle.dm_invariant.specs.Sound.{Sound};
@@ -21,4 +22,18 @@ pub fn group_keeps()
         → Run j entries k → Sound k }
     ensures fits { (j : Joint) (entries : List Entered) (k : Joint) → Kept j → AllByRecursion (λ e. IsOfGroup e.event) entries
         → Run j entries k → Fits k }
+{}
+
+/// What is kept of a state is kept by each legal event on a volume: a zone or a label that is written, a chunk that is read,
+/// answered or failed (docs/DEFINITIONS.md, "The invariant"). Of a read that counts on a chunk with a sum it is supposed that
+/// its bytes and the chunk's part of the bitfile aren't two lists of one length with one SHA-256; of no other event anything.
+pub fn volume_keeps()
+    ensures events { (j k : Joint) (w : ℕ) (e : Event) (a : Answer) → Kept j → IsOnVolume e → ReadTellsApart j e → step j w e ≡ Stepped k a
+        → Kept k }
+    ensures runs { (j : Joint) (entries : List Entered) (k : Joint) → Kept j → AllByRecursion (λ e. IsOnVolume e.event) entries
+        → ReadsTellApart j entries → Run j entries k → Kept k }
+    ensures sound { (j : Joint) (entries : List Entered) (k : Joint) → Kept j → AllByRecursion (λ e. IsOnVolume e.event) entries
+        → ReadsTellApart j entries → Run j entries k → Sound k }
+    ensures fits { (j : Joint) (entries : List Entered) (k : Joint) → Kept j → AllByRecursion (λ e. IsOnVolume e.event) entries
+        → ReadsTellApart j entries → Run j entries k → Fits k }
 {}

@@ -1,4 +1,4 @@
-//! What each event of a group keeps of the joint state: its calls, answered or failed, and its steps in doubt.
+//! What each event of a group and on a volume keeps of the joint state: calls, answered or failed, and steps in doubt.
 //!
 //! A call is proved by the parts of its plan: what it spends, journals and makes, each of which keeps the group's side where the
 //! call's guards hold. A reservation and a move are here whole, with the tips that rise and the places behind them. What is
@@ -7,4 +7,4 @@
 
 mod laws;
 
-pub use laws::group_keeps;
+pub use laws::{group_keeps, volume_keeps};
