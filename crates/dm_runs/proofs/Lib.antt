@@ -4,3 +4,7 @@ pub mod CoveredKept
 -- images
 pub mod ImagesStay
 pub mod ImagesKept
+-- sums
+pub mod Contained
+pub mod SummedSides
+pub mod SummedParts
