@@ -1,5 +1,5 @@
 -- The chunks of a commit are parts that the commit hashes, where they have sums; and so is a chunk that is moved.
-use Rattle.std.proofs.Common.{◌≡◌, ◌⊎◌, ℕ, zero, suc, ◌+◌, ◌-◌, Bool, true, false, cond, ◌&&◌, ◌++◌, if◌then◌else◌, Option, None, Some, IsSome, List, [], ◌∷◌, Contains, drop, length, refl, sym, ap, subst, ◌∙◌, inl, inr}
+use Rattle.std.proofs.Common.{◌≡◌, ◌⊎◌, ℕ, zero, suc, ◌+◌, ◌-◌, Bool, true, false, cond, ◌++◌, if◌then◌else◌, Option, None, Some, IsSome, List, [], ◌∷◌, Contains, drop, length, refl, sym, ap, subst, ◌∙◌, inl, inr}
 use Rattle.std.specs.Prelude as prelude
 use Rattle.std.specs.List.{flat_map}
 use Rattle.std.specs.FinMap as map

@@ -2,9 +2,8 @@
 --
 -- It is so of each chunk that stands in the tables, is in doubt, or may be read under a mount, where the lists are those that
 -- a law on sums supposes to be told apart.
-use Rattle.std.proofs.Common.{◌≡◌, ◌⊎◌, ℕ, Bool, true, false, cond, nat_eq, Option, None, Some, IsSome, List, [], ◌∷◌, Contains, map as mapped_list, refl, sym, ap, subst, ◌∙◌, inl, inr}
+use Rattle.std.proofs.Common.{◌≡◌, ℕ, Bool, true, false, cond, nat_eq, Option, None, Some, IsSome, List, Contains, refl, sym, subst}
 use Rattle.std.specs.FinMap as map
-use Rattle.dm_base.specs.declared.identifier.Bfid.{Bfid}
 use Rattle.dm_base.specs.declared.volume.Chunk.{Chunk}
 use Rattle.dm_tables.specs.Rows.{EachRow, adjust}
 use Rattle.dm_tables.proofs.Adjusted.{each-adjust}

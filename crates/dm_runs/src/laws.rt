@@ -11,8 +11,8 @@ ghost use Rattle.dm_model.specs.Step.{Entered, Run};
 ghost use Rattle.dm_runs.specs.Covered.{IsCovered};
 ghost use Rattle.dm_runs.specs.Images.{ImagesThere, VolumesImaged};
 
-/// A legal run from an opened state ends in a sound state that fits its configuration, where its events are the daemon's,
-/// looks and stops: whatever is put, recalled, dumped and deleted meanwhile, which calls fail, which steps in doubt land, and
+/// A legal run from an opened state ends in a sound state that fits its configuration, where none of its events is a call on a
+/// volume: whatever is put, recalled, dumped, moved and deleted meanwhile, which calls fail, which steps in doubt land, and
 /// wherever the program ends and begins again (docs/DEFINITIONS.md, "The invariant").
 pub fn sound_kept()
     ensures kept { (j : Joint) (entries : List Entered) (k : Joint) → Opened j → AllByRecursion (λ e. IsCovered e.event) entries
