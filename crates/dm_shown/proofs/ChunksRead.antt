@@ -104,11 +104,11 @@ second_of_two : 1 < 2
 second_of_two = omega arith
 
 -- what a mount of a chunk is of: the chunk is still there, on the mount's volume
-record ChunkThere (contents : Numbered (List ℕ)) (s : Side) (b : ℕ) (c : Chunk) (x : MountState) : Type 0 where
-  volume : VolumeRow
-  is : map.get s.group.tables.volumes c.vsn.0 ≡ Some volume
-  still : StillThere contents s.images s.group.reservations s.group.moves volume b c
-  on : c.vsn.0 ≡ x.vsn.0
+pub record ChunkThere (contents : Numbered (List ℕ)) (s : Side) (b : ℕ) (c : Chunk) (x : MountState) : Type 0 where
+  pub volume : VolumeRow
+  pub is : map.get s.group.tables.volumes c.vsn.0 ≡ Some volume
+  pub still : StillThere contents s.images s.group.reservations s.group.moves volume b c
+  pub on : c.vsn.0 ≡ x.vsn.0
 
 still_there : (contents : Numbered (List ℕ)) (s : Side) (b : ℕ) (c : Chunk) (x : MountState)
     → OnceLive contents s.group.tables.volumes s.images s.group.reservations s.group.moves x.epoch b c
@@ -136,7 +136,7 @@ chunk_there_of contents s b c m x (origin.Target job d total e version) made for
 chunk_there_of contents s b c m x (origin.Reuse next_epoch version reading) made for is once origin_kept epoch = absurd for
 
 module _ (j : Joint) (kept : Kept j) (g : ℕ) (s : Side) (side : map.get j.sides g ≡ Some s) where
-  chunk_there : (m : ℕ) (x : MountState) (b : Bfid) (c : Chunk) → map.get s.mounts m ≡ Some x → IsForChunk b c x.origin
+  pub chunk_there : (m : ℕ) (x : MountState) (b : Bfid) (c : Chunk) → map.get s.mounts m ≡ Some x → IsForChunk b c x.origin
       → ChunkThere j.history.contents s b.0 c x
   chunk_there m x b c is for =
       let k = kept.sides g s side in

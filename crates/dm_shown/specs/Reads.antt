@@ -1,5 +1,5 @@
 -- What the reads of users answer.
-use Rattle.std.specs.Prelude.{◌≡◌, ℕ, true, Some, List, [], ◌∷◌, length}
+use Rattle.std.specs.Prelude.{◌≡◌, ◌≢◌, ◌⊎◌, ℕ, true, Some, List, [], ◌∷◌, length}
 use Rattle.std.specs.FinMap as map
 use Rattle.dm_base.specs.declared.identifier.Bfid.{Bfid}
 use Rattle.dm_base.specs.declared.identifier.GroupId.{GroupId}
@@ -22,6 +22,7 @@ use Rattle.dm_model.specs.GroupCalls.{part_of}
 use Rattle.dm_model.specs.Hashed.{SumsTellApart}
 use Rattle.dm_model.specs.Step.{Stepped, step}
 use Rattle.dm_plain.specs.Namespace.{Namespace, bytes_of}
+use Rattle.dm_invariant.specs.Moves.{ReadPart}
 use Rattle.sha2.specs.Sha256.{sha256}
 
 -- ---- files
@@ -75,3 +76,17 @@ ChunksRight j =
     → map.get j.sides g.0 ≡ Some s → map.get s.mounts m ≡ Some x → IsForChunk b c x.origin
     → step j w (event.Call (call.Volume g vsn (volume_call.ReadChunk m c.place c.len bytes))) ≡ Stepped after (answer.ChunkRead bytes)
     → ReadKnown j.history.contents b.0 c x bytes
+
+-- the chunk has a sum, which the bytes haven't
+abbrev pub OtherSum : Chunk → List ℕ → Type 0
+OtherSum c bytes = (sum : List ℕ) × (c.sum ≡ Some sum) × (sha256 bytes ≢ sum)
+
+-- each such read gives the chunk's part of the content, or bytes without the chunk's sum, where the part is no other list of the
+-- length of the bytes with their sum
+abbrev pub ChunksTold : Joint → Type 0
+ChunksTold j =
+    (w m : ℕ) (g : GroupId) (vsn : Vsn) (b : Bfid) (c : Chunk) (bytes : List ℕ) (s : Side) (x : MountState) (after : Joint)
+    → map.get j.sides g.0 ≡ Some s → map.get s.mounts m ≡ Some x → IsForChunk b c x.origin
+    → step j w (event.Call (call.Volume g vsn (volume_call.ReadChunk m c.place c.len bytes))) ≡ Stepped after (answer.ChunkRead bytes)
+    → ((whole : List ℕ) → map.get j.history.contents b.0 ≡ Some whole → SumsTellApart (bytes ∷ part_of whole c.offset c.len ∷ []))
+    → ReadPart j.history.contents b.0 c bytes ⊎ OtherSum c bytes

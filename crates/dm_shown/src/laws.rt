@@ -18,7 +18,7 @@ ghost use Rattle.dm_model.specs.Project.{event_steps, plain_run, projected};
 ghost use Rattle.dm_model.specs.Step.{Entered, Run, Stepped, step};
 ghost use Rattle.dm_plain.specs.Namespace.{Namespace, bytes_of};
 ghost use Rattle.dm_shown.specs.Along.{GoesOn, KeptAlong};
-ghost use Rattle.dm_shown.specs.Reads.{ChunksRight, OnlineRight, RecalledRight};
+ghost use Rattle.dm_shown.specs.Reads.{ChunksRight, ChunksTold, OnlineRight, RecalledRight};
 ghost use Rattle.dm_shown.specs.There.{LandedDead, RequestThere, ReusedDead, YoungThere};
 ghost use Rattle.dm_tables.specs.Rows.{EachRow};
 
@@ -42,11 +42,13 @@ pub fn plain_kept()
 /// one that was recalled, is answered as the namespace has it that users see. A recall is answered as the namespace has it
 /// at the path at which it was begun, whatever was written, moved and freed since. A read of the chunk that a mount
 /// was made for gives the chunk's part of the content where reads of the mount are bound, and where the bytes have the chunk's
-/// sum; for the latter alone it is supposed that the part and the bytes have different sums where they differ.
+/// sum; for the latter alone it is supposed that the part and the bytes have different sums where they differ. So each such read
+/// gives the part, or bytes without the chunk's sum.
 pub fn reads_right()
     ensures online { (j : Joint) (ns : Namespace) → Kept j → plain_of j ≡ shown ns → OnlineRight j ns }
     ensures recalled { (j : Joint) (ns : Namespace) → Kept j → plain_of j ≡ shown ns → RecalledRight j ns }
     ensures chunks { (j : Joint) → Kept j → ChunksRight j }
+    ensures told { (j : Joint) → Kept j → ChunksTold j }
     ensures online_after { (j : Joint) (entries : List Entered) (k : Joint) (ns : Namespace) → KeptAlong j entries → Run j entries k
         → plain_of j ≡ shown ns → OnlineRight k (plain_run (projected j entries) ns) }
     ensures recalled_after { (j : Joint) (entries : List Entered) (k : Joint) (ns : Namespace) → KeptAlong j entries → Run j entries k

@@ -1,4 +1,5 @@
 use Rattle.dm_shown.proofs.ChunksRead.{chunks_right}
+use Rattle.dm_shown.proofs.ChunksTold.{chunks_told}
 use Rattle.dm_shown.proofs.FilesRead.{online_right, recalled_right}
 use Rattle.dm_shown.proofs.NamespaceShown.{agrees_of}
 use Rattle.dm_shown.proofs.PathsAlong.{begun_right}
@@ -28,3 +29,6 @@ pub returns-clause-asked : goal.returns-clause-asked
 returns-clause-asked c j begun k after v w request number len path b groups entries bytes given now ns is kept on run ended same =
     begun_right path request j v begun number len b groups is entries k ns kept on run (agrees_of k (kept_last begun entries k kept run) ns same) w bytes
     given now after ended
+
+pub returns-clause-told : goal.returns-clause-told
+returns-clause-told c j kept = chunks_told j kept
