@@ -1,6 +1,6 @@
 -- runs
 pub mod Runs
-pub mod CoveredKept
+pub mod EventsKept
 -- images
 pub mod ImagesStay
 pub mod ImagesKept
