@@ -8,8 +8,8 @@ use Rattle.dm_durable.specs.declared.group_journal.GroupRow.TheVariants.{State, 
 use Rattle.dm_fields.specs.Fields.{byte_field, chunk_field, longer_chunk_field, list_field, moment_field}
 use Rattle.dm_fields.specs.Numbers.{be64}
 use Rattle.dm_group_records.specs.Steps.{bfid_field, serial_field}
-use Rattle.dm_group_records.specs.declared.rows.LentRow.{LentRow}
-use Rattle.dm_group_records.specs.declared.rows.LentRow.TheVariants as lent
+use Rattle.dm_group_records.specs.declared.rows.RowOf.{RowOf}
+use Rattle.dm_group_records.specs.declared.rows.RowOf.TheVariants as lent
 
 abbrev pub row_byte : GroupRow → ℕ
 row_byte (State time group) = 40
@@ -35,7 +35,7 @@ abbrev pub IsOfRowByte : ℕ → GroupRow → Type 0
 IsOfRowByte n r = (row_byte r ≡ n) × FitsGroupRow r
 
 -- the row that is lent to be written: none of the time before versions and sums
-abbrev pub row_of : LentRow → GroupRow
+abbrev pub row_of : RowOf → GroupRow
 row_of (lent.State time group) = State time group
 row_of (lent.Volume vsn volume) = Volume vsn volume
 row_of (lent.Bitfile b bitfile) = Bitfile b bitfile.now

@@ -18,5 +18,5 @@ pub use kinds::{OldKind, StepKind};
 pub use laws::{payloads_are_short, spelled_once};
 pub use logs::{put_head, put_record, read_log, record_len};
 pub use old_steps::{chunks_of, read_old_fields};
-pub use rows::{LentRow, put_row, read_row, row_len};
+pub use rows::{RowOf, put_row, read_row, row_len};
 pub use steps::{fields_len, kind_of, put_fields, read_fields};

@@ -16,36 +16,36 @@ use std::alloc::Global;
 
 /// A row to be written, of what the tables have; a bitfile is lent. No row of old is one of these.
 #[derive(Drop)]
-pub enum LentRow<'a> {
+pub enum RowOf<'a> {
     State { time: Secs, group: GroupId },
     Volume { vsn: Vsn, volume: VolumeRow },
     Bitfile { bfid: Bfid, bitfile: &'a BitfileRow },
 }
 
 /// How many bytes a row has.
-pub fn row_len(row: &LentRow<'_>) -> usize
+pub fn row_len(row: &RowOf<'_>) -> usize
     requires { length (row_spelling (row_of row.now)) < 2 ^ 64 }
     ensures { result ≡ length (row_spelling (row_of row.now)) }
 {
     match row {
-        LentRow::State { time, group } => (STATE_ROW, (*time, *group)).spelled_len(),
-        LentRow::Volume { vsn, volume } => { (VOLUME_ROW, (*vsn, places_of(volume))).spelled_len() }
-        LentRow::Bitfile { bfid, bitfile } => {
+        RowOf::State { time, group } => (STATE_ROW, (*time, *group)).spelled_len(),
+        RowOf::Volume { vsn, volume } => { (VOLUME_ROW, (*vsn, places_of(volume))).spelled_len() }
+        RowOf::Bitfile { bfid, bitfile } => {
             (BITFILE_ROW, (*bfid, (bitfile.len, &bitfile.chunks))).spelled_len()
         }
     }
 }
 
 /// Writes a row behind the first `at` bytes, and answers where it ends.
-pub fn put_row(row: &LentRow<'_>, out: &mut [u8], at: usize) -> usize
+pub fn put_row(row: &RowOf<'_>, out: &mut [u8], at: usize) -> usize
     requires fits { FitsGroupRow (row_of row.now) }
     requires room { at + length (row_spelling (row_of row.now)) ≤ length out.old }
     ensures { IsPut (row_spelling (row_of row.now)) at out.old out.new result }
 {
     match row {
-        LentRow::State { time, group } => (STATE_ROW, (*time, *group)).put(out, at),
-        LentRow::Volume { vsn, volume } => (VOLUME_ROW, (*vsn, places_of(volume))).put(out, at),
-        LentRow::Bitfile { bfid, bitfile } => {
+        RowOf::State { time, group } => (STATE_ROW, (*time, *group)).put(out, at),
+        RowOf::Volume { vsn, volume } => (VOLUME_ROW, (*vsn, places_of(volume))).put(out, at),
+        RowOf::Bitfile { bfid, bitfile } => {
             (BITFILE_ROW, (*bfid, (bitfile.len, &bitfile.chunks))).put(out, at)
         }
     }

@@ -509,19 +509,19 @@ fn put_payload(payload: &GroupPayload, out: &mut [u8]) -> Option<usize>
 }
 
 // The row as one to be written, if it isn't of old.
-fn lent(row: &GroupRow) -> Option<LentRow<'_>>
+fn lent(row: &GroupRow) -> Option<RowOf<'_>>
     ensures { IfSome result (λ l. row_of l ≡ row.now) }
 {
     match row {
-        GroupRow::State { time, group } => Some(LentRow::State {
+        GroupRow::State { time, group } => Some(RowOf::State {
             time: *time,
             group: *group,
         }),
-        GroupRow::Volume { vsn, volume } => Some(LentRow::Volume {
+        GroupRow::Volume { vsn, volume } => Some(RowOf::Volume {
             vsn: *vsn,
             volume: *volume,
         }),
-        GroupRow::Bitfile { bfid, bitfile } => Some(LentRow::Bitfile {
+        GroupRow::Bitfile { bfid, bitfile } => Some(RowOf::Bitfile {
             bfid: *bfid,
             bitfile,
         }),
