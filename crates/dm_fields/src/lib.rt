@@ -25,3 +25,6 @@ pub use field::{Field, Spelled};
 pub use input::{Input, ReadError};
 pub use lists::{ShortList, ShortListOf, items_len, put_items, read_items};
 pub use texts::{LongBytes, LongBytesOf};
+
+#[cfg(test)]
+mod tests;
