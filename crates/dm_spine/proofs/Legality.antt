@@ -1,8 +1,8 @@
 -- The union of two legal pasts that agree is legal.
 use Rattle.std.proofs.Common.{◌≡◌, ℕ, zero, suc, ◌+◌, ◌<◌, ◌≤◌, ◌⊎◌, true, List, [], ◌∷◌, nat_lt, slice_get, Some, refl, sym, ap, subst, inl, inr, ⊎_elim, arith}
-use Rattle.std.proofs.lemmas.Bool.{cases_lt}
+use Rattle.std.proofs.lemmas.Bool.{cases_lt, ltb-true}
 use Rattle.dm_spine.specs.Past.{Meaning, Lawful, In, Rises, below, union, chain, IsPart, Fits, Legal, Agree}
-use Rattle.dm_spine.proofs.Lists.{in_filter, filter_in, rises_low, rises_filter, in_below, below_in, rises_union, in_union, union_left, union_right, OneAt}
+use Rattle.dm_spine.proofs.Lists.{in_filter, filter_in, rises_low, rises_filter, in_below, below_in, rises_union, in_union, union_left, union_right, same_filter, OneAt}
 use Rattle.dm_spine.proofs.Portions.{parts_one, same_chain}
 
 module _ {E : Type 0} where
@@ -89,17 +89,33 @@ module _ {S N E : Type 0} (m : Meaning S N E) where
     right = agree_left ys xs s r (λ x i a b t k. sym (h.places x i b a k t));
   }
 
+  -- before k there is what is before k among what is before a greater n
+  below_below : (k n : ℕ) (xs : List (ℕ × E)) → Rises 0 xs → k < n → below k (below n xs) ≡ below k xs
+  below_below k n xs r less =
+      same_filter (λ a. nat_lt a.0 k) (below n xs) xs (rises_filter (λ a. nat_lt a.0 n) 0 xs r) r
+      (λ a h t. (below_in n a xs h).0)
+      (λ a h t. let l : a.0 < k = ltb-true a.0 k t in let u : a.0 < n = omega arith in in_below n a xs h u)
+
+  -- where each entry before n fits those before it, what is before n is legal
+  pub legal_below : (p : S) (n : ℕ) (xs : List (ℕ × E)) → Rises 0 xs
+      → ((k : ℕ) (e : E) → In (k, e) xs → k < n → Fits m p (below k xs) e) → Legal m p (below n xs)
+  legal_below p n xs r fits k e h =
+      let there = below_in n (k, e) xs h in
+      let P : List (ℕ × E) → Type 0 = λ zs. Fits m p zs e in
+      subst P (sym (below_below k n xs r there.1)) (fits k e there.0 there.1)
+
   -- an entry that may come after xs may come after more, if nothing of its own names is among it
-  pub fits_grow : (ok : Lawful m) (p : S) (xs ys : List (ℕ × E)) (e : E) → IsPart m xs ys → ((x : N) → m.about e x ≡ true → chain m x ys ≡ chain m x xs) → Fits m p xs e → Fits m p ys e
-  fits_grow ok p xs ys e part same h = record {
-    needed = ok.needs_grow p xs ys e part (λ x t. sym (same x t)) h.needed;
+  pub fits_grow : (ok : Lawful m) (p : S) (xs ys : List (ℕ × E)) (e : E) → IsPart m xs ys → Legal m p xs → Legal m p ys
+      → ((x : N) → m.about e x ≡ true → chain m x ys ≡ chain m x xs) → Fits m p xs e → Fits m p ys e
+  fits_grow ok p xs ys e part legal more same h = record {
+    needed = ok.needs_grow p xs ys e part legal more (λ x t. sym (same x t)) h.needed;
     followed = λ x t. let P : List (ℕ × E) → Type 0 = λ c. m.follows p x c e in subst P (sym (same x t)) (h.followed x t);
   }
 
   legal_into : (ok : Lawful m) (p : S) (xs ys all : List (ℕ × E)) → Rises 0 xs → Rises 0 all → ((a : ℕ × E) → In a xs → In a all) → ((a : ℕ × E) → In a all → In a xs ⊎ In a ys)
       → ((x : N) (a b : ℕ × E) → In a xs → In b ys → b.0 < a.0 → m.about a.1 x ≡ true → m.about b.1 x ≡ true → In b xs)
-      → Legal m p xs → (n : ℕ) (e : E) → In (n, e) xs → Fits m p (below n all) e
-  legal_into ok p xs ys all r s f parted closed legal n e h =
+      → Legal m p xs → (n : ℕ) (e : E) → In (n, e) xs → Legal m p (below n all) → Fits m p (below n all) e
+  legal_into ok p xs ys all r s f parted closed legal n e h before =
       let known : (x : N) (a b : ℕ × E) → In a xs → In b all → b.0 < a.0 → m.about a.1 x ≡ true → m.about b.1 x ≡ true → In b xs
       = λ x a b t k l u v. ⊎_elim (λ w. w) (λ w. closed x a b t w l u v) (parted b k) in
       let rx = rises_filter (λ t. nat_lt t.0 n) 0 xs r in
@@ -111,19 +127,27 @@ module _ {S N E : Type 0} (m : Meaning S N E) where
         within = within;
         chained = λ x a b t k l u v. let ta = below_in n a xs t in let tb = below_in n b all k in in_below n b xs (known x a b ta.0 tb.0 l u v) tb.1;
       } in
-      fits_grow ok p (below n xs) (below n all) e part
+      fits_grow ok p (below n xs) (below n all) e part (legal_below p n xs r (λ k g t l. legal k g t)) before
       (λ x t. same_chain m x (below n xs) (below n all) rx (rises_filter (λ t. nat_lt t.0 n) 0 all s) within
       (λ b k u. let tb = below_in n b all k in in_below n b xs (known x last b h tb.0 tb.1 t u) tb.1))
       (legal n e h)
 
-  pub union_meets : (ok : Lawful m) (p : S) (xs ys : List (ℕ × E)) → Rises 0 xs → Rises 0 ys → Meets xs ys → Legal m p xs → Legal m p ys → Legal m p (union xs ys)
-  union_meets ok p xs ys r s meets l k n e h =
+  -- by induction on a number above: each entry of the union fits, since those before it do
+  union_fits : (ok : Lawful m) (p : S) (xs ys : List (ℕ × E)) → Rises 0 xs → Rises 0 ys → Meets xs ys → Legal m p xs → Legal m p ys
+      → (high n : ℕ) (e : E) → In (n, e) (union xs ys) → n < high → Fits m p (below n (union xs ys)) e
+  union_fits ok p xs ys r s meets l k zero n e h less = absurd (omega arith)
+  union_fits ok p xs ys r s meets l k (suc high) n e h less =
       let u = rises_union 0 xs ys r s in
+      let before : Legal m p (below n (union xs ys)) = legal_below p n (union xs ys) u
+      (λ i f there lower. let low : i < high = omega arith in union_fits ok p xs ys r s meets l k high i f there low) in
       let swap : (a : ℕ × E) → In a (union xs ys) → In a ys ⊎ In a xs = λ a t. ⊎_elim (λ w. inr w) (λ w. inl w) (in_union a xs ys t) in
       ⊎_elim
-      (λ t. legal_into ok p xs ys (union xs ys) r u (λ a w. union_left 0 a xs ys r meets.numbers w) (λ a w. in_union a xs ys w) meets.left l n e t)
-      (λ t. legal_into ok p ys xs (union xs ys) s u (λ a w. union_right a xs ys w) swap meets.right k n e t)
+      (λ t. legal_into ok p xs ys (union xs ys) r u (λ a w. union_left 0 a xs ys r meets.numbers w) (λ a w. in_union a xs ys w) meets.left l n e t before)
+      (λ t. legal_into ok p ys xs (union xs ys) s u (λ a w. union_right a xs ys w) swap meets.right k n e t before)
       (in_union (n, e) xs ys h)
+
+  pub union_meets : (ok : Lawful m) (p : S) (xs ys : List (ℕ × E)) → Rises 0 xs → Rises 0 ys → Meets xs ys → Legal m p xs → Legal m p ys → Legal m p (union xs ys)
+  union_meets ok p xs ys r s meets l k n e h = let above : n < suc n = omega arith in union_fits ok p xs ys r s meets l k (suc n) n e h above
 
   pub union_is_legal : (ok : Lawful m) (p : S) (xs ys : List (ℕ × E)) → Rises 0 xs → Rises 0 ys → Agree m xs ys → Legal m p xs → Legal m p ys → Legal m p (union xs ys)
   union_is_legal ok p xs ys r s agree l k = union_meets ok p xs ys r s (agree_meets xs ys r s agree) l k

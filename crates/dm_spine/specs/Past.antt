@@ -102,6 +102,6 @@ pub record Lawful {S N E : Type 0} (m : Meaning S N E) : Type 0 where
   pub makes_loose : (p : S) (n : ℕ) (e : E) (x : N) → In x (m.makes n e) → In x (m.fixed p) → ⊥
   pub homes_stay : (n : ℕ) (e f : E) → In (m.home f) (m.makes n e) → ⊥
   pub fixed_few : (p : S) → length (m.fixed p) ≤ 32768
-  -- what an entry needs stays true in a larger past, where the chains of its own names are the same
-  pub needs_grow : (p : S) (xs ys : List (ℕ × E)) (e : E) → IsPart m xs ys
+  -- between two legal pasts, what an entry needs stays true in the larger, where the chains of its own names are the same
+  pub needs_grow : (p : S) (xs ys : List (ℕ × E)) (e : E) → IsPart m xs ys → Legal m p xs → Legal m p ys
       → ((x : N) → m.about e x ≡ true → chain m x xs ≡ chain m x ys) → m.needs p xs e → m.needs p ys e

@@ -37,7 +37,7 @@ impl Parts for Counters {
       makes_loose = λ p n e x h t. h;
       homes_stay = λ n e f h. h;
       fixed_few = λ p. lit≤ tt;
-      needs_grow = λ p xs ys e part same h. tt;
+      needs_grow = λ p xs ys e part legal more same h. tt;
     } };
 }
 

@@ -1,8 +1,0 @@
-use Rattle.dm_spine.specs.Passes.{kept_by}
-use Rattle.dm_spine.proofs.Seats.{has_in}
-use Rattle.spine_uses.specs.Counting.{lawful_counting}
-use Rattle.spine_uses.specs.declared.counting.Name.TheVariants.{Worker}
-use Rattle.spine_uses.proofs.session.Session.end.Goals as goal
-
-pub returns-clause-keeps : goal.returns-clause-keeps
-returns-clause-keeps g c = has_in lawful_counting (Worker c.args.self.worker) (kept_by c.args.self.pass) c.args.self.keeps
