@@ -1,0 +1,4 @@
+pub mod Begun
+pub mod Dropping
+pub mod Restarting
+pub mod Reading
