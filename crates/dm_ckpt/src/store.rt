@@ -291,6 +291,8 @@ impl Store {
         ensures used_up { self.old.generation ≡ last_generation → (result ≡ Ok tt) × (self.new ≡ self.old) × (bay.new ≡ bay.old) }
         ensures others { Works (Mine self.old.component) (B.disk bay.old) (B.disk bay.new) (λ x. ⊤) }
         ensures moved { self.old.generation < last_generation → OnOk result (self.new ≡ checkpointed self.old) }
+        ensures sure { OnOk result (self.new.doubt ≡ Sure) }
+        ensures component { self.new.component ≡ self.old.component }
         ensures stays { OnErr result ((self.new ≡ with_doubt self.old Closing) ⊎ (self.new ≡ with_doubt self.old Turning)) }
         ensures stands { Stands (B.disk bay.new) self.new }
         ensures cause { HasCause (B.count bay.old) (B.count bay.new) result }

@@ -2,10 +2,13 @@
 //! each call of the device that was the last. And a loop that loads, over any bay and for any state.
 //!
 //! A list of payloads is written as one number here: the bytes of each, behind their count.
-ghost use Rattle.std.specs.Prelude.{◌≡◌, ◌<◌, length, IfOk, IfSome};
+ghost use Rattle.std.specs.Prelude.{◌≡◌, ◌⊎◌, ◌<◌, ℕ, List, [], ◌∷◌, ◌++◌, length, IfOk, IfSome};
+ghost use Rattle.std.specs.List.{AllByRecursion};
 ghost use Rattle.dm_host.specs.MemoryBay.{disk_of};
 ghost use Rattle.dm_ckpt.specs.declared.doubt.Doubt.TheVariants.{Sure};
-ghost use Rattle.dm_ckpt.specs.Files.{TellsMine};
+ghost use Rattle.dm_ckpt.specs.Area.{body_length, body_limit};
+ghost use Rattle.dm_ckpt.specs.Files.{Mine, TellsMine};
+ghost use Rattle.dm_host.specs.Works.{Works};
 ghost use Rattle.dm_ckpt.specs.Meaning.{StandsForState, KeepsState};
 ghost use Rattle.dm_journal.specs.Grammar.{Fits};
 ghost use Rattle.dm_ckpt.specs.State.{Stands};
@@ -69,6 +72,31 @@ fn reloaded<B: Bay, T: Rows>(
         }
     }
     Ok(None)
+}
+
+// A checkpoint and then an append, as a call of a component makes them: a crash at any moment leaves the state before or
+// the one after, and there is no third case.
+fn checkpoint_and_append<B: Bay, T: Rows, U: Rows>(
+    bay: &mut B,
+    store: &mut Store,
+    state: &T,
+    payload: &[u8],
+    _after: &U,
+) -> Result<(), Failed>
+    requires settled { store.old.doubt ≡ Sure }
+    requires stands { Stands (B.disk bay.old) store.old }
+    requires fits { AllByRecursion Fits (T.rows state.now) }
+    requires small { body_length (T.rows state.now) < body_limit }
+    requires size { Fits payload.now }
+    ensures any_moment { T.means state.now (T.rows state.now)
+        → ((ps : List (List ℕ)) → T.means state.now ps → U.means _after.now (ps ++ payload.now ∷ []))
+        → KeepsState (B.disk bay.old) store.old (T.means state.now)
+        → Works (Mine store.old.component) (B.disk bay.old) (B.disk bay.new)
+        (λ x. StandsForState store.old.component (T.means state.now) x ⊎ StandsForState store.old.component (U.means _after.now) x) }
+    ensures stands { Stands (B.disk bay.new) store.new }
+{
+    store.checkpoint(bay, state)?;
+    store.append(bay, payload)
 }
 
 // A list with one payload more.
@@ -157,7 +185,30 @@ fn healed_checkpoint(alloc: Global, fuse: u64) -> Result<(bool, u128), LoadError
     Ok((landed, list_of(alloc, &mut bay, 0)?))
 }
 
-// The append behind a checkpoint, cut short: whether it succeeded, what a heal answers, and what a load finds.
+// The calls that a bay has made where it failed after so many, or did all that was asked in just as many.
+fn calls_until(fuse: u64, done: bool) -> u64 {
+    if done { fuse } else { fuse.saturating_add(1) }
+}
+
+// Cuts loads of component 0 short, after no call, after one, and so on, until one succeeds: what that finds. The bay has made
+// so many calls. None of the loads before finds damage.
+fn found_at_last(alloc: Global, bay: &mut MemBay, calls: u64) -> Result<u128, LoadError> {
+    let mut calls = calls;
+    for m in 0..64u64 {
+        bay.fuse = Some(calls.saturating_add(m));
+        match list_of(alloc, bay, 0) {
+            Err(LoadError::Failed) => calls = calls.saturating_add(m + 1),
+            found => {
+                bay.fuse = None;
+                return found;
+            }
+        }
+    }
+    Err(LoadError::NoMemory)
+}
+
+// The append behind a checkpoint, cut short: whether it succeeded, what a heal answers, and what a load finds, which was cut
+// short at each call before.
 fn cut_append(alloc: Global, fuse: u64) -> Result<(bool, bool, u128), LoadError> {
     let mut bay = MemBay::empty(alloc);
     let Some(mut store) = begun(alloc, &mut bay)? else {
@@ -167,7 +218,7 @@ fn cut_append(alloc: Global, fuse: u64) -> Result<(bool, bool, u128), LoadError>
         return Ok((false, false, 0));
     }
     let done = append_until(&mut bay, &mut store, fuse);
-    let found = list_of(alloc, &mut bay, 0)?;
+    let found = found_at_last(alloc, &mut bay, calls_until(fuse, done))?;
     let Ok(landed) = store.heal(&mut bay) else {
         return Ok((done, false, 0));
     };
@@ -175,7 +226,7 @@ fn cut_append(alloc: Global, fuse: u64) -> Result<(bool, bool, u128), LoadError>
 }
 
 // A checkpoint that is cut short, a heal, and another one that is cut short: whether that succeeded, and what a load
-// finds.
+// finds, which was cut short at each call before.
 fn cut_again(alloc: Global, first: u64, second: u64) -> Result<(bool, u128), LoadError> {
     let mut bay = MemBay::empty(alloc);
     let Some(mut store) = begun(alloc, &mut bay)? else {
@@ -186,7 +237,8 @@ fn cut_again(alloc: Global, first: u64, second: u64) -> Result<(bool, u128), Loa
         return Ok((false, 0));
     };
     let done = checkpoint_until(&mut bay, &mut store, second, 8);
-    Ok((done, list_of(alloc, &mut bay, 0)?))
+    let calls = calls_until(second, done);
+    Ok((done, found_at_last(alloc, &mut bay, calls)?))
 }
 
 // A checkpoint that is cut short after n calls, and a load after m: what that finds, and what the next one does.
@@ -498,5 +550,23 @@ fn a_checkpoint_is_due(rt: HostRuntime) -> Result<(), Fail> {
     payload.resize(16_777_216, 0)?;
     assert_eq!(rt; grown(alloc, &payload, 3)?, (false, 50_331_663));
     assert_eq!(rt; grown(alloc, &payload, 4)?, (true, 67_108_884));
+    Ok(())
+}
+
+// What a load finds behind a checkpoint to `Tag(7)` and an append of the payload 8 in one call.
+fn called(alloc: Global) -> Result<u128, LoadError> {
+    let mut bay = MemBay::empty(alloc);
+    let Some(mut store) = begun(alloc, &mut bay)? else {
+        return Ok(0);
+    };
+    if checkpoint_and_append(&mut bay, &mut store, &Tag(7), &[8], &Tag(8)).is_err() {
+        return Err(LoadError::Failed);
+    }
+    list_of(alloc, &mut bay, 0)
+}
+
+#[test]
+fn a_call_takes_a_checkpoint_and_appends(rt: HostRuntime) -> Result<(), Fail> {
+    assert_eq!(rt; called(rt.alloc()), Ok(behind(SEVENS, &[8])));
     Ok(())
 }
