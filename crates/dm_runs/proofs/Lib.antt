@@ -8,3 +8,6 @@ pub mod ImagesKept
 pub mod Contained
 pub mod SummedSides
 pub mod SummedParts
+pub mod SummedPlans
+pub mod SummedEvents
+pub mod SumsTell

@@ -119,6 +119,39 @@ module _ (lists : List (List ℕ)) (contents after : Numbered (List ℕ)) (more 
     doubt = doubt_onward s.group.doubt k.doubt;
   }
 
+-- ---- more lists
+
+module _ (lists more : List (List ℕ)) (within : (x : List ℕ) → Contains lists x → Contains more x) (contents : Numbered (List ℕ)) where
+  part_wider : (b : ℕ) (c : Chunk) → PartIn lists contents b c → PartIn more contents b c
+  part_wider b c part has = let p = part has in record { bytes = p.bytes; content = p.content; among = within _ p.among }
+
+  origin_wider : (o : Origin) → OriginIn lists contents o → OriginIn more contents o
+  origin_wider (origin.New listed format) part = tt
+  origin_wider (origin.Piece b index p chunk) part = tt
+  origin_wider (origin.Chunk b c) part = part_wider b.0 c part
+  origin_wider (origin.Source job b c) part = part_wider b.0 c part
+  origin_wider (origin.Target job b total c version) part = tt
+  origin_wider (origin.Reuse next_epoch version reading) part = tt
+
+  step_wider : (x : GroupStep) → StepIn lists contents x → StepIn more contents x
+  step_wider (step.Volume vsn slot version size) part = tt
+  step_wider (step.Commit b len chunks) part = λ c among. part_wider b.0 c (part c among)
+  step_wider (step.Delete b) part = tt
+  step_wider (step.Move b from to) part = part_wider b.0 to part
+  step_wider (step.Free vsn) part = tt
+  step_wider (step.Reuse vsn epoch version) part = tt
+
+  doubt_wider : (o : Option GroupRecord) → DoubtIn lists contents o → DoubtIn more contents o
+  doubt_wider None part = tt
+  doubt_wider (Some r) part = step_wider r.step part
+
+  pub wider : (s : Side) → SideSummed lists contents s → SideSummed more contents s
+  wider s k = record {
+    rows = λ b row is c among. part_wider b c (k.rows b row is c among);
+    mounts = λ m x is. origin_wider x.origin (k.mounts m x is);
+    doubt = doubt_wider s.group.doubt k.doubt;
+  }
+
 -- ---- parts of a plan
 
 module _ (lists : List (List ℕ)) (contents : Numbered (List ℕ)) where
