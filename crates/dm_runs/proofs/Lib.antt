@@ -1,6 +1,7 @@
 -- runs
 pub mod Runs
 pub mod EventsKept
+pub mod RunsJoined
 -- images
 pub mod ImagesStay
 pub mod ImagesKept
@@ -11,3 +12,6 @@ pub mod SummedParts
 pub mod SummedPlans
 pub mod SummedEvents
 pub mod SumsTell
+pub mod ReadsTold
+-- what the laws have in common
+pub mod RunsEnd

@@ -1,5 +1,5 @@
 -- The parts of contents that chunks with sums are, stay among the byte lists through each legal event that hashes nothing else.
-use Rattle.std.proofs.Common.{◌≡◌, ◌≤◌, ℕ, Bool, true, false, cond, ◌&&◌, Option, None, Some, List, [], ◌∷◌, Contains, option_map, refl, sym, ap, subst, ◌∙◌}
+use Rattle.std.proofs.Common.{◌≡◌, ◌≤◌, ℕ, Bool, true, false, cond, ◌&&◌, Option, None, Some, List, [], ◌∷◌, Contains, option_map, refl, ap, subst, ◌∙◌}
 use Rattle.std.specs.FinMap as map
 use Rattle.dm_base.specs.declared.identifier.Bfid.{Bfid}
 use Rattle.dm_base.specs.declared.identifier.GroupId.{GroupId}
@@ -12,7 +12,6 @@ use Rattle.dm_durable.specs.declared.daemon.Contents.TheVariants.{Regular, Makin
 use Rattle.dm_durable.specs.declared.daemon.DaemonRecord.{DaemonRecord}
 use Rattle.dm_durable.specs.declared.daemon.DaemonStep.{DaemonStep}
 use Rattle.dm_durable.specs.declared.daemon.DaemonStep.TheVariants.{Write, Remove, BeginPut, Stored, EndPut, Release, Taken, Dump, Undump, Restore, HardDelete, Dropped, Restart, Age}
-use Rattle.dm_durable.specs.declared.daemon.DaemonTables.{DaemonTables}
 use Rattle.dm_durable.specs.declared.daemon.Dump.{Dump as DumpRow}
 use Rattle.dm_durable.specs.declared.daemon.DumpInode.{DumpInode}
 use Rattle.dm_durable.specs.declared.daemon.Entry.{Entry}
@@ -47,12 +46,11 @@ use Rattle.dm_model.specs.Effects.{after_ending, at_each, contents_with, groups_
 use Rattle.dm_model.specs.Files.{File, file_at}
 use Rattle.dm_model.specs.Guards.{AllHold}
 use Rattle.dm_model.specs.Hashed.{hashed_by, hashed_by_group}
-use Rattle.dm_model.specs.Plan.{Plan, Needs, guards_always, guards_of, guards_of_fault, illegal_call, illegal_fault, prepared, refusal_of}
+use Rattle.dm_model.specs.Plan.{Plan, guards_always, guards_of, guards_of_fault, illegal_call, illegal_fault, prepared, refusal_of}
 use Rattle.dm_model.specs.SideShare.{side_after_ending, side_after_failed_mark, side_after_mark, side_after_opening, side_after_payload, side_after_stop, side_doubting, side_without_doubt}
-use Rattle.dm_model.specs.Step.{Stepped, after_call, after_fault, after_landing, after_stop, daemon_doubt, group_doubt, landed_doubt, landed_in, looked_in, needs_of, plan_of, side_needs, side_plan, step, volume_plan_in}
-use Rattle.dm_model.specs.VolumeCalls.{image_plan, mount_in, mounted_plan, volume_plan}
+use Rattle.dm_model.specs.Step.{Stepped, after_call, after_fault, after_landing, after_stop, daemon_doubt, group_doubt, landed_doubt, landed_in, looked_in, needs_of, side_needs, side_plan, step, volume_plan_in}
+use Rattle.dm_model.specs.VolumeCalls.{mount_in, mounted_plan, volume_plan}
 use Rattle.dm_invariant.specs.Doubts.{MayLandIf}
-use Rattle.dm_invariant.specs.Files.{FilesKept}
 use Rattle.dm_invariant.specs.Kept.{Kept}
 use Rattle.dm_invariant.proofs.LookUps.{beside_free}
 use Rattle.dm_landing.proofs.CallsLanded.{PayloadLands, daemon_call_lands}
@@ -61,11 +59,11 @@ use Rattle.dm_effects.proofs.BeginningCalls.{always_hold, front_holds}
 use Rattle.dm_effects.proofs.PutEnded.{each_at_each}
 use Rattle.dm_group_effects.proofs.GroupEvents.{outcome_is}
 use Rattle.dm_shown.proofs.EventsShown.{all_hold, side_pays, volume_pays}
-use Rattle.dm_shown.proofs.PlansShown.{called_files, files_of, files_paid, follows, group_paid, landed_files, still_follows}
+use Rattle.dm_shown.proofs.PlansShown.{called_files, files_of, files_paid, follows, landed_files, still_follows}
 use Rattle.dm_shown.proofs.RecordsShown.{contents_after}
 use Rattle.dm_model.proofs.Shares.{PaysOf}
 use Rattle.dm_runs.proofs.SummedPlans.{PlanIn, group_plan_in, opens_if, opens_prepared, payload_prepared}
-use Rattle.dm_runs.proofs.SummedSides.{DoubtIn, OpeningIn, PayloadIn, SideSummed, StepIn, doubting_in, ending_in, failed_mark_in, healing_in, mark_in, opening_in, payload_in, side_onward, stop_in}
+use Rattle.dm_runs.proofs.SummedSides.{DoubtIn, OpeningIn, PayloadIn, SideSummed, doubting_in, ending_in, failed_mark_in, healing_in, mark_in, opening_in, payload_in, side_onward, stop_in}
 
 -- on each side the parts are among these
 abbrev pub Summed : List (List ℕ) → Joint → Type 0

@@ -1,6 +1,6 @@
 -- What a call of a group journals and makes: the parts of contents that its chunks with sums are, are hashed by the call, or
 -- were among the byte lists before.
-use Rattle.std.proofs.Common.{◌≡◌, ℕ, Bool, true, false, cond, nat_eq, Option, None, Some, IsSome, is_some, List, [], ◌∷◌, Contains, option_to_list, refl, sym, ap, subst, ◌∙◌}
+use Rattle.std.proofs.Common.{◌≡◌, ℕ, Bool, true, false, cond, nat_eq, Option, None, Some, is_some, List, [], ◌∷◌, Contains, option_to_list, refl, sym, ap, subst, ◌∙◌}
 use Rattle.std.specs.FinMap as map
 use Rattle.dm_base.specs.declared.identifier.Bfid.{Bfid}
 use Rattle.dm_base.specs.declared.identifier.GroupId.{GroupId}
@@ -28,17 +28,17 @@ use Rattle.dm_model.specs.declared.state.Reserved.{Reserved}
 use Rattle.dm_model.specs.declared.state.Reusing.{Reusing}
 use Rattle.dm_model.specs.declared.state.Side.{Side}
 use Rattle.dm_model.specs.declared.state.Worker.{Worker}
-use Rattle.dm_model.specs.GroupCalls.{abort, add_volume, asking_group, commit, delete_of, drop_move, free, free_of, group_needs, group_plan, group_time, merge_first, merge_to, mount_chunk, mount_chunk_of, mount_piece, mount_piece_of, move_done, move_done_needs, part_of, piece_at, reuse, reuse_first, unmount}
+use Rattle.dm_model.specs.GroupCalls.{abort, add_volume, commit, delete_of, drop_move, free, free_of, group_needs, group_plan, group_time, merge_first, merge_to, mount_chunk, mount_chunk_of, mount_piece, mount_piece_of, move_done, move_done_needs, part_of, piece_at, reuse, reuse_first, unmount}
 use Rattle.dm_model.specs.Guards.{AllHold}
 use Rattle.dm_model.specs.Hashed.{bytes_read, hashed_by_commit, hashed_by_move, hashed_in_group, hashed_of_content}
 use Rattle.dm_model.specs.Plan.{Plan, guards_always, if_accepted, prepared, refusal_of}
 use Rattle.dm_model.specs.Volumes.{usage_of}
-use Rattle.dm_invariant.specs.Kept.{Kept, SideOf}
+use Rattle.dm_invariant.specs.Kept.{SideOf}
 use Rattle.dm_invariant.specs.Moves.{ReadPart, ReadRight}
 use Rattle.dm_landing.proofs.VolumeChunkLists.{chunk_among}
 use Rattle.dm_runs.proofs.Contained.{contains_first, contains_if}
 use Rattle.dm_runs.proofs.SummedParts.{live_in, summed_part, was_read}
-use Rattle.dm_runs.proofs.SummedSides.{OpeningIn, PartAmong, PartIn, PayloadIn, SideSummed}
+use Rattle.dm_runs.proofs.SummedSides.{OpeningIn, PartIn, PayloadIn, SideSummed}
 
 -- what a plan journals and makes
 pub record PlanIn (lists : List (List ℕ)) (contents : Numbered (List ℕ)) (p : Plan) : Type 0 where

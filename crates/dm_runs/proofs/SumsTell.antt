@@ -1,6 +1,6 @@
 -- Where the sums of what is hashed in a run, and of what stands in chunks as it begins, tell these byte lists apart, each read of
 -- the run tells its bytes by their sum.
-use Rattle.std.proofs.Common.{◌≡◌, ◌<◌, ℕ, zero, suc, Bool, true, false, cond, ◌&&◌, nat_eq, Option, None, Some, IsSome, is_some, List, [], ◌∷◌, ◌++◌, Contains, length, refl, sym, ap, subst, ◌∙◌, inl, inr, arith}
+use Rattle.std.proofs.Common.{◌≡◌, ◌<◌, ℕ, zero, suc, Bool, true, false, cond, ◌&&◌, nat_eq, Option, None, Some, IsSome, is_some, List, [], ◌∷◌, ◌++◌, Contains, refl, sym, subst, ◌∙◌, inl, inr, arith}
 use Rattle.std.proofs.Common.{nat_cmp, Ordering}
 use Rattle.std.specs.Prelude as prelude
 use Rattle.std.specs.List.{AllByRecursion, flat_map}
@@ -24,9 +24,9 @@ use Rattle.dm_model.specs.declared.state.Origin.{Origin}
 use Rattle.dm_model.specs.declared.state.Origin.TheVariants as origin
 use Rattle.dm_model.specs.declared.state.Side.{Side}
 use Rattle.dm_model.specs.GroupCalls.{part_of}
-use Rattle.dm_model.specs.Hashed.{NoCollision, SumsTellApart, hashed, hashed_by, hashed_by_volume, hashed_of_chunk, hashed_of_read, hashed_on_volume, hashed_under, parts_of_content, parts_on, parts_stored}
+use Rattle.dm_model.specs.Hashed.{NoCollision, SumsTellApart, hashed, hashed_by, hashed_by_volume, hashed_of_read, hashed_on_volume, hashed_under, parts_of_content, parts_on, parts_stored}
 use Rattle.dm_model.specs.Step.{Entered, Run, state_after, step}
-use Rattle.dm_group_effects.specs.OnVolume.{ReadTellsApart, ReadsTellApart, parts_by_volume, parts_of_origin, parts_on_volume, parts_read_by, parts_under}
+use Rattle.dm_group_effects.specs.OnVolume.{ReadTellsApart, ReadsTellApart, parts_by_volume, parts_of_origin, parts_on_volume, parts_under}
 use Rattle.dm_invariant.specs.Among.{Among}
 use Rattle.dm_invariant.specs.Kept.{Kept}
 use Rattle.dm_invariant.specs.Opened.{Opened}
@@ -42,7 +42,7 @@ use Rattle.dm_runs.proofs.SummedSides.{DoubtIn, OriginIn, PartIn, SideSummed, wi
 none_in : {X : Type 0} (x : X) → Contains [] x → ⊥
 none_in x has = let below = has.1 in omega (arith, below)
 
-one_is : {X : Type 0} (y x : X) → Contains (y ∷ []) x → y ≡ x
+pub one_is : {X : Type 0} (y x : X) → Contains (y ∷ []) x → y ≡ x
 one_is y x has = at has.0 has.1 has.2
   where
     at : (k : ℕ) → k < 1 → prelude.slice_index_or (y ∷ []) k x ≡ x → y ≡ x
@@ -50,7 +50,7 @@ one_is y x has = at has.0 has.1 has.2
     at (suc k) below same = absurd (omega (arith, below))
 
 -- sums tell apart the elements of a part of a list
-tell_fewer : (lists xs : List (List ℕ)) → ((x : List ℕ) → Contains xs x → Contains lists x) → SumsTellApart lists → SumsTellApart xs
+pub tell_fewer : (lists xs : List (List ℕ)) → ((x : List ℕ) → Contains xs x → Contains lists x) → SumsTellApart lists → SumsTellApart xs
 tell_fewer lists xs within apart x y one two long same = apart x y (within x one) (within y two) long same
 
 tell_none : SumsTellApart []
@@ -158,7 +158,7 @@ opened_row j kept g s side b row is c among has =
           (contains_mapped (λ (d : Chunk). part_of k.bytes d.offset d.len) c row.chunks among)));
     }
 
-opened_in : (j : Joint) → Opened j → Summed (parts_stored j) j
+pub opened_in : (j : Joint) → Opened j → Summed (parts_stored j) j
 opened_in j opened = λ g s is.
     let o = opened.sides g s is in
     record {
@@ -169,7 +169,7 @@ opened_in j opened = λ g s is.
 
 -- ---- runs
 
-more_lists : (lists more : List (List ℕ)) → ((x : List ℕ) → Contains lists x → Contains more x) → (j : Joint) → Summed lists j → Summed more j
+pub more_lists : (lists more : List (List ℕ)) → ((x : List ℕ) → Contains lists x → Contains more x) → (j : Joint) → Summed lists j → Summed more j
 more_lists lists more within j summed = λ g s is. wider lists more within j.history.contents s (summed g s is)
 
 -- each read of a legal run tells its bytes

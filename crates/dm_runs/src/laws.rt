@@ -1,35 +1,81 @@
 //! What is proved, as contracts of functions that do nothing.
+//!
+//! The laws suppose of a run that no two different byte lists of one length have one SHA-256, of those that are hashed in the
+//! run and the parts of bitfiles that stand in chunks as it begins (docs/DEFINITIONS.md, "What the laws take of a run").
 ghost use Rattle.std.specs.Prelude.{◌≡◌, ℕ, List};
 ghost use Rattle.dm_group_effects.specs.OnVolume.{ReadsTellApart};
 ghost use Rattle.dm_invariant.specs.Kept.{Kept};
 ghost use Rattle.dm_invariant.specs.Opened.{Fits, Opened};
 ghost use Rattle.dm_invariant.specs.Sound.{Sound};
-ghost use Rattle.dm_model.specs.declared.state.Joint.{Joint};
 ghost use Rattle.dm_invariant.specs.StandsFor.{plain_of, shown};
+ghost use Rattle.dm_model.specs.declared.state.Joint.{Joint};
+ghost use Rattle.dm_model.specs.Hashed.{NoCollision};
 ghost use Rattle.dm_model.specs.Project.{plain_run, projected};
 ghost use Rattle.dm_model.specs.Step.{Entered, Run};
 ghost use Rattle.dm_runs.specs.Images.{ImagesThere, VolumesImaged};
+ghost use Rattle.dm_runs.specs.Reads.{ChunksReadRight, RecallsAnswered};
+ghost use Rattle.dm_shown.specs.Reads.{OnlineRight, RecalledRight};
+ghost use Rattle.dm_shown.specs.There.{LandedDead, RequestThere, ReusedDead, YoungThere};
+ghost use Rattle.dm_tables.specs.Rows.{EachRow};
 
 /// A legal run from an opened state ends in a sound state that fits its configuration: whatever is put, recalled, dumped,
 /// merged and deleted meanwhile, which calls fail, which steps in doubt land, and wherever the program ends and begins again
-/// (docs/DEFINITIONS.md, "The invariant"). It is supposed that no read of a chunk with a sum gives other bytes that have its
-/// length and its sum.
+/// (docs/DEFINITIONS.md, "The invariant"). Each volume of the tables has an image of its size then.
 pub fn sound_kept()
-    ensures kept { (j : Joint) (entries : List Entered) (k : Joint) → Opened j → ReadsTellApart j entries → Run j entries k → Kept k }
-    ensures sound { (j : Joint) (entries : List Entered) (k : Joint) → Opened j → ReadsTellApart j entries → Run j entries k → Sound k }
-    ensures fits { (j : Joint) (entries : List Entered) (k : Joint) → Opened j → ReadsTellApart j entries → Run j entries k → Fits k }
-    ensures volumes { (j : Joint) (entries : List Entered) (k : Joint) → Opened j → ReadsTellApart j entries → Run j entries k
+    ensures kept { (j : Joint) (entries : List Entered) (k : Joint) → Opened j → NoCollision j entries → Run j entries k → Kept k }
+    ensures sound { (j : Joint) (entries : List Entered) (k : Joint) → Opened j → NoCollision j entries → Run j entries k → Sound k }
+    ensures fits { (j : Joint) (entries : List Entered) (k : Joint) → Opened j → NoCollision j entries → Run j entries k → Fits k }
+    ensures volumes { (j : Joint) (entries : List Entered) (k : Joint) → Opened j → NoCollision j entries → Run j entries k
         → VolumesImaged k }
 {}
 
 /// What users see of the namespace that the last state of such a run stands for is what they see of the first one's after the
 /// plain steps of the run, whatever stops it has (docs/DEFINITIONS.md, "What users see").
 pub fn plain_kept()
-    ensures shown { (j : Joint) (entries : List Entered) (k : Joint) → Opened j → ReadsTellApart j entries → Run j entries k
+    ensures shown { (j : Joint) (entries : List Entered) (k : Joint) → Opened j → NoCollision j entries → Run j entries k
         → plain_of k ≡ shown (plain_run (projected j entries) (plain_of j)) }
 {}
 
-/// After each legal run from an opened state, of whichever events, each volume of the configuration has an image of its size.
+/// What reads answer after such a run (docs/DEFINITIONS.md, "What users see"): a file whose bytes are on the disk, and one that
+/// was recalled, as the plain namespace has it, a recall at the path at which it was begun; and a chunk by its part of the
+/// content, or by bytes that haven't the chunk's sum.
+pub fn reads_right()
+    ensures online { (j : Joint) (entries : List Entered) (k : Joint) → Opened j → NoCollision j entries → Run j entries k
+        → OnlineRight k (plain_run (projected j entries) (plain_of j)) }
+    ensures recalled { (j : Joint) (entries : List Entered) (k : Joint) → Opened j → NoCollision j entries → Run j entries k
+        → RecalledRight k (plain_run (projected j entries) (plain_of j)) }
+    ensures asked { (j : Joint) (entries : List Entered) (k : Joint) → Opened j → Run j entries k → RecallsAnswered j entries k }
+    ensures chunks { (j : Joint) (entries : List Entered) (k : Joint) → Opened j → Run j entries k → ChunksReadRight j entries k }
+{}
+
+/// After such a run the entry of an open request is there, and isn't being dropped; and the bitfile of an open recall is in each
+/// group that was asked (docs/DEFINITIONS.md, "What is there, and what is dead").
+pub fn request_there()
+    ensures there { (j : Joint) (entries : List Entered) (k : Joint) → Opened j → NoCollision j entries → Run j entries k
+        → EachRow k.daemon.requests (λ n r. RequestThere k r) }
+{}
+
+/// After such a run each bitfile that a young dump names is in each of its groups, and no hard delete ever took it.
+pub fn young_kept()
+    ensures there { (j : Joint) (entries : List Entered) (k : Joint) → Opened j → NoCollision j entries → Run j entries k → YoungThere k }
+{}
+
+/// A volume that is used again after such a run was held for the group's hold since it was freed, or is empty; and nothing is on
+/// it. So it is as a reuse is accepted, and as one in doubt is found to have landed.
+pub fn freed_dead()
+    ensures reused { (j : Joint) (entries : List Entered) (k : Joint) → Opened j → NoCollision j entries → Run j entries k → ReusedDead k }
+    ensures landed { (j : Joint) (entries : List Entered) (k : Joint) → Opened j → NoCollision j entries → Run j entries k → LandedDead k }
+{}
+
+/// Where the sums of what is hashed in a legal run from an opened state, and of what stands in chunks as it begins, tell these
+/// byte lists apart, each read of the run tells its bytes from the part that it is of. This alone is what the laws need of sums.
+pub fn sums_tell()
+    ensures reads { (j : Joint) (entries : List Entered) (k : Joint) → Opened j → NoCollision j entries → Run j entries k
+        → ReadsTellApart j entries }
+    ensures kept { (j : Joint) (entries : List Entered) (k : Joint) → Opened j → ReadsTellApart j entries → Run j entries k → Kept k }
+{}
+
+/// After each legal run from an opened state each volume of the configuration has an image of its size.
 pub fn images_kept()
     ensures images { (j : Joint) (entries : List Entered) (k : Joint) → Opened j → Run j entries k → ImagesThere k }
 {}

@@ -6,4 +6,7 @@
 
 mod laws;
 
-pub use laws::{images_kept, plain_kept, sound_kept};
+pub use laws::{
+    freed_dead, images_kept, plain_kept, reads_right, request_there, sound_kept, sums_tell,
+    young_kept,
+};
