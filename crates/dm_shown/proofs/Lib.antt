@@ -18,6 +18,4 @@ pub mod ChunksRead
 -- what is there, and what is dead
 pub mod BitfilesThere
 pub mod VolumesDead
--- what holds of sides besides
-pub mod SidesAlong
 pub mod ChunksTold

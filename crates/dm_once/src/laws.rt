@@ -1,0 +1,36 @@
+//! What is proved, as contracts of functions that do nothing.
+ghost use Rattle.std.specs.Prelude.{◌≡◌, ℕ, List, Some};
+ghost use Rattle.std.specs.FinMap as map;
+ghost use Rattle.dm_base.specs.declared.volume.Chunk.{Chunk};
+ghost use Rattle.dm_durable.specs.declared.group.BitfileRow.{BitfileRow};
+ghost use Rattle.dm_durable.specs.declared.group.VolumeRow.{VolumeRow};
+ghost use Rattle.dm_invariant.specs.Among.{Among};
+ghost use Rattle.dm_invariant.specs.Kept.{Kept};
+ghost use Rattle.dm_model.specs.declared.answer.Answer.{Answer};
+ghost use Rattle.dm_model.specs.declared.call.Event.{Event};
+ghost use Rattle.dm_model.specs.declared.state.Joint.{Joint};
+ghost use Rattle.dm_model.specs.declared.state.Side.{Side};
+ghost use Rattle.dm_model.specs.Step.{Entered, Run, Stepped, step};
+ghost use Rattle.dm_once.specs.WasLive.{WasLiveIn};
+ghost use Rattle.dm_shown.specs.Along.{KeptAlong};
+
+/// A chunk that was live when its volume had an epoch is still there for as long as the volume has that epoch, whatever became
+/// of its bitfile: its bytes are known to be its part of the content, its sum is right, and no zone in hand meets it
+/// (docs/DEFINITIONS.md, "Once live"). Each chunk of a bitfile is such a one, and each legal event, stops among them, keeps that.
+pub fn once_live()
+    ensures begins { (j : Joint) (g b : ℕ) (s : Side) (row : BitfileRow) (c : Chunk) (v : VolumeRow) → Kept j → map.get j.sides g ≡ Some s
+        → map.get s.group.tables.bitfiles b ≡ Some row → Among c row.chunks → map.get s.group.tables.volumes c.vsn.0 ≡ Some v
+        → WasLiveIn j g v.epoch b c }
+    ensures events { (j k : Joint) (w : ℕ) (e : Event) (a : Answer) (g epoch b : ℕ) (c : Chunk) → Kept j → step j w e ≡ Stepped k a
+        → WasLiveIn j g epoch b c → WasLiveIn k g epoch b c }
+    ensures runs { (j : Joint) (entries : List Entered) (k : Joint) (g epoch b : ℕ) (c : Chunk) → KeptAlong j entries → Run j entries k
+        → WasLiveIn j g epoch b c → WasLiveIn k g epoch b c }
+{}
+
+/// The content of a bitfile in a state is its content ever after.
+pub fn content_kept()
+    ensures events { (j k : Joint) (w : ℕ) (e : Event) (a : Answer) (b : ℕ) (bytes : List ℕ) → Kept j → step j w e ≡ Stepped k a
+        → map.get j.history.contents b ≡ Some bytes → map.get k.history.contents b ≡ Some bytes }
+    ensures runs { (j : Joint) (entries : List Entered) (k : Joint) (b : ℕ) (bytes : List ℕ) → KeptAlong j entries → Run j entries k
+        → map.get j.history.contents b ≡ Some bytes → map.get k.history.contents b ≡ Some bytes }
+{}

@@ -1,0 +1,7 @@
+//! Chunks that were once live: as long as their volume has the epoch that it had then, their bytes stay known, whatever becomes
+//! of their bitfile. What is proved of whole events and of runs is the contract of a function that does nothing.
+#![tactic(auto)]
+
+mod laws;
+
+pub use laws::{content_kept, once_live};
