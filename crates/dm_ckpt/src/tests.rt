@@ -425,6 +425,49 @@ fn an_area_with_a_wrong_row(rt: HostRuntime) -> Result<(), Fail> {
     Ok(())
 }
 
+// The same where area 1 is of one row of zeros, of 20,971,520 bytes and so many more.
+fn of_long_row(alloc: Global, more: u8) -> Result<u128, LoadError>
+    requires { more < 2 }
+{
+    let mut bay = MemBay::empty(alloc);
+    let front = [
+        1,
+        0,
+        0,
+        0,
+        0,
+        0,
+        0,
+        0,
+        1,
+        0,
+        0,
+        0,
+        0,
+        1,
+        64,
+        0,
+        4 + more,
+        1,
+        64,
+        0,
+        more,
+    ];
+    if bay.write(129, 0, &front).is_err() || bay.write(129, 20_971_541, &[0]).is_err() {
+        return Err(LoadError::Failed);
+    }
+    list_of(alloc, &mut bay, 0)
+}
+
+// The zeros leave nothing of the count in the number.
+#[test]
+fn an_area_with_a_long_row(rt: HostRuntime) -> Result<(), Fail> {
+    let alloc = rt.alloc();
+    assert_eq!(rt; of_long_row(alloc, 0), Ok(0));
+    assert_eq!(rt; of_long_row(alloc, 1), damaged(129));
+    Ok(())
+}
+
 #[test]
 fn two_areas(rt: HostRuntime) -> Result<(), Fail> {
     let alloc = rt.alloc();
