@@ -6,3 +6,7 @@ pub mod OncePlans
 pub mod DaemonRequests
 pub mod OnceVolumes
 pub mod OnceAlong
+-- mounts of volumes that the tables hadn't
+pub mod MissingParts
+pub mod MissingMakes
+pub mod MissingAlong

@@ -1,1 +1,2 @@
 pub mod WasLive
+pub mod Missing

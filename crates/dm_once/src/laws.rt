@@ -11,6 +11,8 @@ ghost use Rattle.dm_model.specs.declared.call.Event.{Event};
 ghost use Rattle.dm_model.specs.declared.state.Joint.{Joint};
 ghost use Rattle.dm_model.specs.declared.state.Side.{Side};
 ghost use Rattle.dm_model.specs.Step.{Entered, Run, Stepped, step};
+ghost use Rattle.dm_invariant.specs.Opened.{Opened};
+ghost use Rattle.dm_once.specs.Missing.{ListedRight};
 ghost use Rattle.dm_once.specs.WasLive.{WasLiveIn};
 ghost use Rattle.dm_shown.specs.Along.{KeptAlong};
 
@@ -33,4 +35,12 @@ pub fn content_kept()
         → map.get j.history.contents b ≡ Some bytes → map.get k.history.contents b ≡ Some bytes }
     ensures runs { (j : Joint) (entries : List Entered) (k : Joint) (b : ℕ) (bytes : List ℕ) → KeptAlong j entries → Run j entries k
         → map.get j.history.contents b ≡ Some bytes → map.get k.history.contents b ≡ Some bytes }
+{}
+
+/// A volume that the tables hadn't as it was mounted for any use is missing from them as long as the mount is open, and one that
+/// they had is there (docs/DEFINITIONS.md, "Volumes that are missing"). So it is in an opened state, and each legal event keeps it.
+pub fn missing_kept()
+    ensures opened { (j : Joint) → Opened j → ListedRight j }
+    ensures events { (j k : Joint) (w : ℕ) (e : Event) (a : Answer) → Kept j → ListedRight j → step j w e ≡ Stepped k a → ListedRight k }
+    ensures runs { (j : Joint) (entries : List Entered) (k : Joint) → KeptAlong j entries → Run j entries k → ListedRight j → ListedRight k }
 {}
