@@ -15,3 +15,4 @@ pub mod SumsTell
 pub mod ReadsTold
 -- what the laws have in common
 pub mod RunsEnd
+pub mod PayloadsFollow

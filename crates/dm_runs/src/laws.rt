@@ -13,6 +13,7 @@ ghost use Rattle.dm_model.specs.Hashed.{NoCollision};
 ghost use Rattle.dm_model.specs.Project.{plain_run, projected};
 ghost use Rattle.dm_model.specs.Step.{Entered, Run};
 ghost use Rattle.dm_runs.specs.Images.{ImagesThere, VolumesImaged};
+ghost use Rattle.dm_runs.specs.Journals.{CallsMayJournal, DoubtsMayLand, FaultsMayJournal, TablesMayBe};
 ghost use Rattle.dm_runs.specs.Reads.{ChunksReadRight, RecallsAnswered};
 ghost use Rattle.dm_shown.specs.Reads.{OnlineRight, RecalledRight};
 ghost use Rattle.dm_shown.specs.There.{LandedDead, RequestThere, ReusedDead, YoungThere};
@@ -65,6 +66,20 @@ pub fn young_kept()
 pub fn freed_dead()
     ensures reused { (j : Joint) (entries : List Entered) (k : Joint) → Opened j → NoCollision j entries → Run j entries k → ReusedDead k }
     ensures landed { (j : Joint) (entries : List Entered) (k : Joint) → Opened j → NoCollision j entries → Run j entries k → LandedDead k }
+{}
+
+/// After such a run what a legal call journals may be next in its component's tables, what one that fails may have journalled may,
+/// and what is in doubt may; and the tables of each component may be a state that a checkpoint writes. So no journal that a run
+/// wrote is damaged.
+pub fn payloads_follow()
+    ensures calls { (j : Joint) (entries : List Entered) (k : Joint) → Opened j → NoCollision j entries → Run j entries k
+        → CallsMayJournal k }
+    ensures faults { (j : Joint) (entries : List Entered) (k : Joint) → Opened j → NoCollision j entries → Run j entries k
+        → FaultsMayJournal k }
+    ensures doubts { (j : Joint) (entries : List Entered) (k : Joint) → Opened j → NoCollision j entries → Run j entries k
+        → DoubtsMayLand k }
+    ensures tables { (j : Joint) (entries : List Entered) (k : Joint) → Opened j → NoCollision j entries → Run j entries k
+        → TablesMayBe k }
 {}
 
 /// Where the sums of what is hashed in a legal run from an opened state, and of what stands in chunks as it begins, tell these

@@ -7,6 +7,5 @@
 mod laws;
 
 pub use laws::{
-    freed_dead, images_kept, plain_kept, reads_right, request_there, sound_kept, sums_tell,
-    young_kept,
+    freed_dead, images_kept, payloads_follow, plain_kept, reads_right, request_there, sound_kept, sums_tell, young_kept,
 };
