@@ -16,3 +16,4 @@ pub mod ReadsTold
 -- what the laws have in common
 pub mod RunsEnd
 pub mod PayloadsFollow
+pub mod FoundThere

@@ -1,20 +1,16 @@
 -- What a legal call journals may be next, and what is in doubt; and tables may be a state.
 --
 -- Of a group's call it follows from the call's failure: its record is in doubt then, and what is in doubt may land.
-use Rattle.std.proofs.Common.{◌≡◌, ℕ, ◌+◌, ◌≤◌, true, Option, None, Some, List, refl, sym, ap, subst, ◌∙◌, arith}
+use Rattle.std.proofs.Common.{◌≡◌, ℕ, true, Option, None, Some, refl, sym, ap, subst, ◌∙◌, arith}
 use Rattle.std.specs.FinMap as map
 use Rattle.dm_base.specs.declared.identifier.GroupId.{GroupId}
 use Rattle.dm_base.specs.declared.serial.Vsn.{Vsn}
 use Rattle.dm_base.specs.declared.volume.Chunk.{Chunk}
-use Rattle.dm_tables.specs.Rows.{EachRow}
-use Rattle.dm_durable.specs.declared.daemon.DaemonRecord.{DaemonRecord}
 use Rattle.dm_durable.specs.declared.group.GroupRecord.{GroupRecord}
 use Rattle.dm_durable.specs.declared.group.GroupTables.{GroupTables}
-use Rattle.dm_durable.specs.declared.group.VolumeRow.{VolumeRow}
 use Rattle.dm_durable.specs.GroupConditions.{LiesOn, MayGroupFollow}
 use Rattle.dm_durable.specs.GroupJournal.{MayBeGroupState}
 use Rattle.dm_durable.specs.Limits.{IsGroupNumber, IsVolumeSize}
-use Rattle.dm_durable.specs.Tables.{Named}
 use Rattle.dm_model.specs.declared.call.Call.{Call}
 use Rattle.dm_model.specs.declared.call.Call.TheVariants as call
 use Rattle.dm_model.specs.declared.call.GroupCall.{GroupCall}
@@ -40,7 +36,6 @@ use Rattle.dm_model.specs.Step.{after_fault, needs_of, plan_of, side_needs, side
 use Rattle.dm_model.specs.VolumeCalls.{mount_in, volume_plan}
 use Rattle.dm_model.proofs.PlansOf.{group_plan-of, prepared-of}
 use Rattle.dm_model.proofs.Shares.{PaysOf, group-after_fault, side-after_fault}
-use Rattle.dm_invariant.specs.Among.{Among}
 use Rattle.dm_invariant.specs.Catalogue.{LiesBefore}
 use Rattle.dm_invariant.specs.Doubts.{GroupMayLandIf, MayLandIf}
 use Rattle.dm_invariant.specs.Kept.{Kept, SideOf, deleted_in}

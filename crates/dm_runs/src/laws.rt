@@ -15,6 +15,7 @@ ghost use Rattle.dm_model.specs.Step.{Entered, Run};
 ghost use Rattle.dm_runs.specs.Images.{ImagesThere, VolumesImaged};
 ghost use Rattle.dm_runs.specs.Journals.{CallsMayJournal, DoubtsMayLand, FaultsMayJournal, TablesMayBe};
 ghost use Rattle.dm_runs.specs.Reads.{ChunksReadRight, RecallsAnswered};
+ghost use Rattle.dm_runs.specs.There.{ChunksFollow, CopiesOpen, MountedWhole, NumbersNew, ReservedAsked};
 ghost use Rattle.dm_shown.specs.Reads.{OnlineRight, RecalledRight};
 ghost use Rattle.dm_shown.specs.There.{LandedDead, RequestThere, ReusedDead, YoungThere};
 ghost use Rattle.dm_tables.specs.Rows.{EachRow};
@@ -80,6 +81,22 @@ pub fn payloads_follow()
         → DoubtsMayLand k }
     ensures tables { (j : Joint) (entries : List Entered) (k : Joint) → Opened j → NoCollision j entries → Run j entries k
         → TablesMayBe k }
+{}
+
+/// What the calls of groups find after such a run: the entry of a bitfile for which room may be reserved, and the bitfile of which
+/// a worker may mount a chunk, with its next chunk or its end where one ends; the put and the reservation of a copy that is
+/// kept; and new numbers.
+pub fn found_there()
+    ensures reserved { (j : Joint) (entries : List Entered) (k : Joint) → Opened j → NoCollision j entries → Run j entries k
+        → ReservedAsked k }
+    ensures mounted { (j : Joint) (entries : List Entered) (k : Joint) → Opened j → NoCollision j entries → Run j entries k
+        → MountedWhole k }
+    ensures chunks { (j : Joint) (entries : List Entered) (k : Joint) → Opened j → NoCollision j entries → Run j entries k
+        → ChunksFollow k }
+    ensures copies { (j : Joint) (entries : List Entered) (k : Joint) → Opened j → NoCollision j entries → Run j entries k
+        → CopiesOpen k }
+    ensures numbers { (j : Joint) (entries : List Entered) (k : Joint) → Opened j → NoCollision j entries → Run j entries k
+        → NumbersNew k }
 {}
 
 /// Where the sums of what is hashed in a legal run from an opened state, and of what stands in chunks as it begins, tell these

@@ -7,5 +7,6 @@
 mod laws;
 
 pub use laws::{
-    freed_dead, images_kept, payloads_follow, plain_kept, reads_right, request_there, sound_kept, sums_tell, young_kept,
+    found_there, freed_dead, images_kept, payloads_follow, plain_kept, reads_right, request_there,
+    sound_kept, sums_tell, young_kept,
 };
