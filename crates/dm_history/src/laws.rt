@@ -1,0 +1,60 @@
+//! What is proved, as contracts of functions that do nothing.
+ghost use Rattle.std.specs.Prelude.{◌≡◌, ℕ, List, ◌∷◌, ◌++◌};
+ghost use Rattle.std.specs.List.{AllByRecursion};
+ghost use Rattle.dm_model.specs.declared.answer.Answer.{Answer};
+ghost use Rattle.dm_model.specs.declared.call.Event.{Event};
+ghost use Rattle.dm_model.specs.declared.entry.Entry.{Entry};
+ghost use Rattle.dm_model.specs.declared.entry.Name.{Name};
+ghost use Rattle.dm_model.specs.declared.state.Joint.{Joint};
+ghost use Rattle.dm_model.specs.Names.{home_of, made_by, names_of};
+ghost use Rattle.dm_model.specs.Project.{plain_run, projected};
+ghost use Rattle.dm_model.specs.Step.{Run, Stepped, step};
+ghost use Rattle.dm_group_effects.specs.OnVolume.{ReadsTellApart};
+ghost use Rattle.dm_invariant.specs.Kept.{Kept};
+ghost use Rattle.dm_invariant.specs.Opened.{Opened};
+ghost use Rattle.dm_invariant.specs.Sound.{Sound};
+ghost use Rattle.dm_invariant.specs.StandsFor.{plain_of, shown};
+ghost use Rattle.dm_shown.specs.Along.{GoesOn, KeptAlong};
+ghost use Rattle.dm_spine.specs.Past.{In, Lawful, Legal, Rises};
+ghost use Rattle.dm_history.specs.Alike.{Alike};
+ghost use Rattle.dm_history.specs.History.{Begun, NeedsGrow, history, run_of, state_seen};
+
+/// What names and entries mean keeps all laws of a shared history but one: names are told apart; an entry is about its home, about
+/// what it ends and about the makers of what it makes; what is made is neither fixed nor a home; and the fixed names are few
+/// (docs/DEFINITIONS.md, "The machine's history"). So it is lawful where what an entry needs stays true in a larger past.
+pub fn names_lawful()
+    ensures lawful { NeedsGrow → Lawful history }
+{}
+
+/// An event changes the states of no names but those that it is about and those that it makes, whatever the state is: what
+/// another name has stays the same, and of a volume no more is known than before (docs/DEFINITIONS.md, "The machine's
+/// history"). A stop is no entry of a history, and is left out.
+pub fn names_told()
+    ensures stays { (j k : Joint) (w : ℕ) (e : Event) (a : Answer) (x : Name) → GoesOn e → step j w e ≡ Stepped k a
+        → (In x (home_of e ∷ names_of j w e ++ made_by e a) → ⊥) → Alike x j k }
+{}
+
+/// A legal past of a history that begins in an opened state is, by the numbers of its entries, a legal run from there,
+/// without a stop, to the state after it (docs/DEFINITIONS.md, "The machine's history"). So every law of runs holds of what any
+/// pass has seen.
+pub fn past_is_run()
+    ensures run { (begun : Begun) (xs : List (ℕ × Entry)) → Opened begun.opened → Rises 0 xs → Legal history begun xs
+        → Run begun.opened (run_of xs) (state_seen begun.opened xs) }
+    ensures goes { (begun : Begun) (xs : List (ℕ × Entry)) → Opened begun.opened → Rises 0 xs → Legal history begun xs
+        → AllByRecursion (λ e. GoesOn e.event) (run_of xs) }
+{}
+
+/// After each entry of such a past the machine is in a state of the invariant, and so in a sound one; and what users see is what they
+/// see after the plain steps of the past. It is supposed that no read of a chunk with a sum gives other bytes that have its
+/// length and its sum (docs/DEFINITIONS.md, "The machine's history").
+pub fn past_kept()
+    ensures along { (begun : Begun) (xs : List (ℕ × Entry)) → Opened begun.opened → Rises 0 xs → Legal history begun xs
+        → ReadsTellApart begun.opened (run_of xs) → KeptAlong begun.opened (run_of xs) }
+    ensures kept { (begun : Begun) (xs : List (ℕ × Entry)) → Opened begun.opened → Rises 0 xs → Legal history begun xs
+        → ReadsTellApart begun.opened (run_of xs) → Kept (state_seen begun.opened xs) }
+    ensures sound { (begun : Begun) (xs : List (ℕ × Entry)) → Opened begun.opened → Rises 0 xs → Legal history begun xs
+        → ReadsTellApart begun.opened (run_of xs) → Sound (state_seen begun.opened xs) }
+    ensures shown { (begun : Begun) (xs : List (ℕ × Entry)) → Opened begun.opened → Rises 0 xs → Legal history begun xs
+        → ReadsTellApart begun.opened (run_of xs)
+        → plain_of (state_seen begun.opened xs) ≡ shown (plain_run (projected begun.opened (run_of xs)) (plain_of begun.opened)) }
+{}
