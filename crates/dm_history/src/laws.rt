@@ -6,10 +6,10 @@ ghost use Rattle.dm_model.specs.declared.call.Event.{Event};
 ghost use Rattle.dm_model.specs.declared.entry.Entry.{Entry};
 ghost use Rattle.dm_model.specs.declared.entry.Name.{Name};
 ghost use Rattle.dm_model.specs.declared.state.Joint.{Joint};
+ghost use Rattle.dm_model.specs.Hashed.{NoCollision};
 ghost use Rattle.dm_model.specs.Names.{home_of, made_by, names_of};
 ghost use Rattle.dm_model.specs.Project.{plain_run, projected};
 ghost use Rattle.dm_model.specs.Step.{Run, Stepped, step};
-ghost use Rattle.dm_group_effects.specs.OnVolume.{ReadsTellApart};
 ghost use Rattle.dm_invariant.specs.Kept.{Kept};
 ghost use Rattle.dm_invariant.specs.Opened.{Opened};
 ghost use Rattle.dm_invariant.specs.Sound.{Sound};
@@ -45,16 +45,16 @@ pub fn past_is_run()
 {}
 
 /// After each entry of such a past the machine is in a state of the invariant, and so in a sound one; and what users see is what they
-/// see after the plain steps of the past. It is supposed that no read of a chunk with a sum gives other bytes that have its
-/// length and its sum (docs/DEFINITIONS.md, "The machine's history").
+/// see after the plain steps of the past. It is supposed that no two different byte lists of one length have one SHA-256, of those that
+/// are hashed in the past and the parts of bitfiles that stand in chunks as it begins (docs/DEFINITIONS.md, "The machine's history").
 pub fn past_kept()
     ensures along { (begun : Begun) (xs : List (ℕ × Entry)) → Opened begun.opened → Rises 0 xs → Legal history begun xs
-        → ReadsTellApart begun.opened (run_of xs) → KeptAlong begun.opened (run_of xs) }
+        → NoCollision begun.opened (run_of xs) → KeptAlong begun.opened (run_of xs) }
     ensures kept { (begun : Begun) (xs : List (ℕ × Entry)) → Opened begun.opened → Rises 0 xs → Legal history begun xs
-        → ReadsTellApart begun.opened (run_of xs) → Kept (state_seen begun.opened xs) }
+        → NoCollision begun.opened (run_of xs) → Kept (state_seen begun.opened xs) }
     ensures sound { (begun : Begun) (xs : List (ℕ × Entry)) → Opened begun.opened → Rises 0 xs → Legal history begun xs
-        → ReadsTellApart begun.opened (run_of xs) → Sound (state_seen begun.opened xs) }
+        → NoCollision begun.opened (run_of xs) → Sound (state_seen begun.opened xs) }
     ensures shown { (begun : Begun) (xs : List (ℕ × Entry)) → Opened begun.opened → Rises 0 xs → Legal history begun xs
-        → ReadsTellApart begun.opened (run_of xs)
+        → NoCollision begun.opened (run_of xs)
         → plain_of (state_seen begun.opened xs) ≡ shown (plain_run (projected begun.opened (run_of xs)) (plain_of begun.opened)) }
 {}
