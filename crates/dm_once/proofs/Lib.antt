@@ -10,3 +10,6 @@ pub mod OnceAlong
 pub mod MissingParts
 pub mod MissingMakes
 pub mod MissingAlong
+-- bitfiles that a group hasn't
+pub mod AwayParts
+pub mod AwayAlong

@@ -1,2 +1,3 @@
 pub mod WasLive
 pub mod Missing
+pub mod Away

@@ -12,6 +12,7 @@ ghost use Rattle.dm_model.specs.declared.state.Joint.{Joint};
 ghost use Rattle.dm_model.specs.declared.state.Side.{Side};
 ghost use Rattle.dm_model.specs.Step.{Entered, Run, Stepped, step};
 ghost use Rattle.dm_invariant.specs.Opened.{Opened};
+ghost use Rattle.dm_once.specs.Away.{BringsOther, IsAwayIn};
 ghost use Rattle.dm_once.specs.Missing.{ListedRight};
 ghost use Rattle.dm_once.specs.WasLive.{WasLiveIn};
 ghost use Rattle.dm_shown.specs.Along.{KeptAlong};
@@ -43,4 +44,11 @@ pub fn missing_kept()
     ensures opened { (j : Joint) → Opened j → ListedRight j }
     ensures events { (j k : Joint) (w : ℕ) (e : Event) (a : Answer) → Kept j → ListedRight j → step j w e ≡ Stepped k a → ListedRight k }
     ensures runs { (j : Joint) (entries : List Entered) (k : Joint) → KeptAlong j entries → Run j entries k → ListedRight j → ListedRight k }
+{}
+
+/// A group comes to have a bitfile by a commit of a reservation of that bitfile alone, or by one in doubt that landed: every other
+/// legal event leaves away what the group hasn't (docs/DEFINITIONS.md, "Bitfiles that a group hasn't").
+pub fn committed_alone()
+    ensures events { (j k : Joint) (w : ℕ) (e : Event) (a : Answer) (g b : ℕ) → Kept j → IsAwayIn j g b → BringsOther j g b e
+        → step j w e ≡ Stepped k a → IsAwayIn k g b }
 {}

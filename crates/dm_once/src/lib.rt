@@ -4,4 +4,4 @@
 
 mod laws;
 
-pub use laws::{content_kept, missing_kept, once_live};
+pub use laws::{committed_alone, content_kept, missing_kept, once_live};
