@@ -25,7 +25,7 @@ const HEAD: u8 = 1;
 /// The kind of an upgrade.
 const UPGRADE: u8 = 16;
 
-/// How many bytes a record has.
+/// How many bytes a record has, which tells the room that `put_record` needs.
 pub fn record_len(record: &DaemonRecord) -> usize
     requires { length (spelling (Record record.now)) < 2 ^ 64 }
     ensures { result ≡ length (spelling (Record record.now)) }
@@ -33,7 +33,8 @@ pub fn record_len(record: &DaemonRecord) -> usize
     9 + fields_len(&record.step)
 }
 
-/// Writes a record behind the first `at` bytes, and answers where it ends.
+/// Writes a record behind the first `at` bytes, and answers where it ends (docs/FORMATS.md, "The daemon's payloads"). What
+/// stands from there on has no meaning.
 pub fn put_record(record: &DaemonRecord, out: &mut [u8], at: usize) -> usize
     requires fits { FitsPayload (Record record.now) }
     requires room { at + length (spelling (Record record.now)) ≤ length out.old }
@@ -89,7 +90,8 @@ pub fn put_upgrade(time: Secs, out: &mut [u8], at: usize) -> usize
     (UPGRADE, time).put(out, at)
 }
 
-/// Reads a payload of a log: all the bytes are one.
+/// Reads a payload of a log: all the bytes are one. `Damaged` says that they are none, `NoMemory` that memory was refused
+/// and it is not known whether they are.
 pub fn read_log(alloc: Global, bytes: &[u8]) -> Result<DaemonPayload, ReadError>
     ensures { IsWholeRead spelling FitsLog bytes.now result }
 {

@@ -15,7 +15,8 @@ use dm_durable::{Contents, DaemonRow, DumpInode, Entry, Inode};
 use dm_fields::{Field, Input, ReadError, Spelled};
 use std::alloc::Global;
 
-/// A row that a checkpoint writes, lent by the tables. Rows of version 1 are not among them: they are only read.
+/// A row that a checkpoint writes, lent by the tables (docs/FORMATS.md, "The daemon's payloads"). Rows of version 1 are not
+/// among them: they are only read.
 #[derive(Drop)]
 pub enum LentRow<'a> {
     /// What the tables have once.
@@ -68,7 +69,7 @@ pub fn kind_of_row(row: &LentRow<'_>) -> RowKind
     }
 }
 
-/// How many bytes a row has.
+/// How many bytes a row has, which tells the room that `put_row` needs.
 pub fn row_len(row: &LentRow<'_>) -> usize
     requires { length (row_spelling (row_of row.now)) < 2 ^ 64 }
     ensures { result ≡ length (row_spelling (row_of row.now)) }
@@ -76,7 +77,7 @@ pub fn row_len(row: &LentRow<'_>) -> usize
     1 + row_fields_len(row)
 }
 
-/// Writes a row behind the first `at` bytes, and answers where it ends.
+/// Writes a row behind the first `at` bytes, and answers where it ends. What stands from there on has no meaning.
 pub fn put_row(row: &LentRow<'_>, out: &mut [u8], at: usize) -> usize
     requires fits { FitsRow (row_of row.now) }
     requires room { at + length (row_spelling (row_of row.now)) ≤ length out.old }
@@ -86,7 +87,8 @@ pub fn put_row(row: &LentRow<'_>, out: &mut [u8], at: usize) -> usize
     put_row_fields(row, out, behind)
 }
 
-/// Reads a row: all the bytes are one.
+/// Reads a row: all the bytes are one. `Damaged` says that they are none, `NoMemory` that memory was refused and it is not
+/// known whether they are.
 pub fn read_row(alloc: Global, bytes: &[u8]) -> Result<DaemonRow, ReadError>
     ensures { IsWholeRead row_spelling FitsRow bytes.now result }
 {
