@@ -122,13 +122,6 @@ fn refusals_with_numbers(rt: HostRuntime) {
     assert!(rt;
         prints(
             alloc,
-            Reply::Limit { limit: 16_777_216 },
-            b"err limit 16777216\n"
-        )
-    );
-    assert!(rt;
-        prints(
-            alloc,
             Reply::NoRoom {
                 have: 840,
                 need: 841
@@ -155,6 +148,24 @@ fn refusals_with_numbers(rt: HostRuntime) {
         found: 2,
     };
     assert!(rt; prints(alloc, rewritten, b"err rewritten AA0001 1 2\n"));
+}
+
+// Of files, dumps, saves, ages, numbers and of a payload.
+#[test]
+fn limits(rt: HostRuntime) {
+    for (limit, text) in [
+        (65_536, "err limit 65536\n"),
+        (64, "err limit 64\n"),
+        (4, "err limit 4\n"),
+        (4_294_967_295, "err limit 4294967295\n"),
+        (9_223_372_036_854_775_807, "err limit 9223372036854775807\n"),
+        (16_777_216, "err limit 16777216\n"),
+    ] {
+        assert!(rt;
+            prints(rt.alloc(), Reply::Limit { limit }, text.as_bytes()),
+            "{text}"
+        );
+    }
 }
 
 fn names_state(alloc: Global, found: FileState, text: &[u8]) -> bool {
@@ -444,20 +455,63 @@ fn names_key(alloc: Global, key: ConfKey, text: &[u8]) -> bool {
     tells(alloc, Fatal::Config { key }, text)
 }
 
+// Each key once; the groups' with the numbers 1 to 4.
+const KEYS: [(ConfKey, &str); 22] = [
+    (ConfKey::Length, "fatal config length\n"),
+    (ConfKey::Toml, "fatal config toml\n"),
+    (ConfKey::Site, "fatal config site\n"),
+    (ConfKey::First, "fatal config first\n"),
+    (ConfKey::Age, "fatal config age\n"),
+    (ConfKey::Cap, "fatal config cap\n"),
+    (ConfKey::Sessions, "fatal config sessions\n"),
+    (ConfKey::Copies, "fatal config copies\n"),
+    (ConfKey::Group, "fatal config group\n"),
+    (
+        ConfKey::GroupDrives { group: GroupId(1) },
+        "fatal config group.1.drives\n",
+    ),
+    (
+        ConfKey::GroupChunk { group: GroupId(2) },
+        "fatal config group.2.chunk\n",
+    ),
+    (
+        ConfKey::GroupSparse { group: GroupId(3) },
+        "fatal config group.3.sparse\n",
+    ),
+    (
+        ConfKey::GroupHold { group: GroupId(4) },
+        "fatal config group.4.hold\n",
+    ),
+    (
+        ConfKey::GroupVolumes { group: GroupId(1) },
+        "fatal config group.1.volumes\n",
+    ),
+    (
+        ConfKey::GroupSize { group: GroupId(2) },
+        "fatal config group.2.size\n",
+    ),
+    (
+        ConfKey::GroupFormat { group: GroupId(3) },
+        "fatal config group.3.format\n",
+    ),
+    (ConfKey::SpaceHigh, "fatal config space.high\n"),
+    (ConfKey::SpaceLow, "fatal config space.low\n"),
+    (ConfKey::SpaceAhead, "fatal config space.ahead\n"),
+    (ConfKey::SpaceAgeWeight, "fatal config space.age_weight\n"),
+    (ConfKey::SpaceSizeWeight, "fatal config space.size_weight\n"),
+    (ConfKey::Unknown, "fatal config unknown\n"),
+];
+
+#[test]
+fn keys(rt: HostRuntime) {
+    for (key, text) in KEYS {
+        assert!(rt; names_key(rt.alloc(), key, text.as_bytes()), "{text}");
+    }
+}
+
 #[test]
 fn fatal_lines(rt: HostRuntime) {
     let alloc = rt.alloc();
-    let drives = ConfKey::GroupDrives { group: GroupId(1) };
-    assert!(rt; names_key(alloc, drives, b"fatal config group.1.drives\n"));
-    assert!(rt; names_key(alloc, ConfKey::Length, b"fatal config length\n"));
-    assert!(rt; names_key(alloc, ConfKey::Toml, b"fatal config toml\n"));
-    assert!(rt;
-        names_key(
-            alloc,
-            ConfKey::SpaceAgeWeight,
-            b"fatal config space.age_weight\n"
-        )
-    );
     assert!(rt;
         tells(
             alloc,
