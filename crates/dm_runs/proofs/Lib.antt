@@ -17,3 +17,4 @@ pub mod ReadsTold
 pub mod RunsEnd
 pub mod PayloadsFollow
 pub mod FoundThere
+pub mod PastStays

@@ -10,7 +10,7 @@ run_joined j [] i ys k one two = subst (λ m. Run m ys k) (sym one) two
 run_joined j (e ∷ es) i ys k one two = (one.0, one.1, run_joined one.0 es i ys k one.2 two)
 
 -- what holds along the whole holds along the latter
-along_behind : (j : Joint) (xs : List Entered) (i : Joint) (ys : List Entered) → Run j xs i → KeptAlong j (xs ++ ys) → KeptAlong i ys
+pub along_behind : (j : Joint) (xs : List Entered) (i : Joint) (ys : List Entered) → Run j xs i → KeptAlong j (xs ++ ys) → KeptAlong i ys
 along_behind j [] i ys run along = subst (λ m. KeptAlong m ys) run along
 along_behind j (e ∷ es) i ys run along =
     along_behind run.0 es i ys run.2 (subst (λ o. KeptAlong (state_after j o) (es ++ ys)) run.1 along.1)

@@ -2,16 +2,24 @@
 //!
 //! The laws suppose of a run that no two different byte lists of one length have one SHA-256, of those that are hashed in the
 //! run and the parts of bitfiles that stand in chunks as it begins (docs/DEFINITIONS.md, "What the laws take of a run").
-ghost use Rattle.std.specs.Prelude.{◌≡◌, ℕ, List};
+ghost use Rattle.std.specs.Prelude.{◌≡◌, ℕ, Some, List, ◌++◌};
+ghost use Rattle.std.specs.FinMap as map;
+ghost use Rattle.dm_base.specs.declared.volume.Chunk.{Chunk};
+ghost use Rattle.dm_durable.specs.declared.group.BitfileRow.{BitfileRow};
+ghost use Rattle.dm_durable.specs.declared.group.VolumeRow.{VolumeRow};
 ghost use Rattle.dm_group_effects.specs.OnVolume.{ReadsTellApart};
+ghost use Rattle.dm_invariant.specs.Among.{Among};
 ghost use Rattle.dm_invariant.specs.Kept.{Kept};
 ghost use Rattle.dm_invariant.specs.Opened.{Fits, Opened};
 ghost use Rattle.dm_invariant.specs.Sound.{Sound};
 ghost use Rattle.dm_invariant.specs.StandsFor.{plain_of, shown};
 ghost use Rattle.dm_model.specs.declared.state.Joint.{Joint};
+ghost use Rattle.dm_model.specs.declared.state.Side.{Side};
 ghost use Rattle.dm_model.specs.Hashed.{NoCollision};
 ghost use Rattle.dm_model.specs.Project.{plain_run, projected};
 ghost use Rattle.dm_model.specs.Step.{Entered, Run};
+ghost use Rattle.dm_once.specs.Missing.{ListedRight};
+ghost use Rattle.dm_once.specs.WasLive.{WasLiveIn};
 ghost use Rattle.dm_runs.specs.Images.{ImagesThere, VolumesImaged};
 ghost use Rattle.dm_runs.specs.Journals.{CallsMayJournal, DoubtsMayLand, FaultsMayJournal, TablesMayBe};
 ghost use Rattle.dm_runs.specs.Reads.{ChunksReadRight, RecallsAnswered};
@@ -97,6 +105,26 @@ pub fn found_there()
         → CopiesOpen k }
     ensures numbers { (j : Joint) (entries : List Entered) (k : Joint) → Opened j → NoCollision j entries → Run j entries k
         → NumbersNew k }
+{}
+
+/// What was so at some moment of such a run: a chunk that a group had then is still there at its end, as long as its volume has the
+/// epoch that it had, whatever became of its bitfile (docs/DEFINITIONS.md, "Once live"); and the content of a bitfile is its
+/// content ever after.
+pub fn past_stays()
+    ensures live { (j : Joint) (before : List Entered) (mid : Joint) (later : List Entered) (k : Joint) → Opened j
+        → NoCollision j (before ++ later) → Run j before mid → Run mid later k
+        → (g b : ℕ) (s : Side) (row : BitfileRow) (c : Chunk) (v : VolumeRow) → map.get mid.sides g ≡ Some s
+        → map.get s.group.tables.bitfiles b ≡ Some row → Among c row.chunks → map.get s.group.tables.volumes c.vsn.0 ≡ Some v
+        → WasLiveIn k g v.epoch b c }
+    ensures content { (j : Joint) (before : List Entered) (mid : Joint) (later : List Entered) (k : Joint) → Opened j
+        → NoCollision j (before ++ later) → Run j before mid → Run mid later k
+        → (b : ℕ) (bytes : List ℕ) → map.get mid.history.contents b ≡ Some bytes → map.get k.history.contents b ≡ Some bytes }
+{}
+
+/// After such a run a volume that the tables hadn't as it was mounted for any use is missing from them as long as the mount is open,
+/// and one that they had is there (docs/DEFINITIONS.md, "Volumes that are missing").
+pub fn missing_kept()
+    ensures listed { (j : Joint) (entries : List Entered) (k : Joint) → Opened j → NoCollision j entries → Run j entries k → ListedRight k }
 {}
 
 /// Where the sums of what is hashed in a legal run from an opened state, and of what stands in chunks as it begins, tell these

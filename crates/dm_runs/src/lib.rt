@@ -7,6 +7,6 @@
 mod laws;
 
 pub use laws::{
-    found_there, freed_dead, images_kept, payloads_follow, plain_kept, reads_right, request_there,
-    sound_kept, sums_tell, young_kept,
+    found_there, freed_dead, images_kept, missing_kept, past_stays, payloads_follow, plain_kept,
+    reads_right, request_there, sound_kept, sums_tell, young_kept,
 };
