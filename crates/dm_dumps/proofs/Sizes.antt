@@ -1,7 +1,7 @@
 -- The sums of bytes, as 64 bits hold them.
 use Rattle.std.proofs.Common.{◌≡◌, ℕ, List, ◌+◌, ◌-◌, ◌*◌, ◌/◌, ◌<◌, ◌^◌, ◌%◌, sym, ap, ◌∙◌, arith}
 use Rattle.std.proofs.Math.Nat.{mod-add-mod, mod-add-div', add-mul-mod_self_right, mod-eq_of_lt}
-use Rattle.std.specs.FinMap.{FinMap, empty, get, insert, remove}
+use Rattle.std.specs.FinMap.{empty, get, insert, remove}
 use Rattle.dm_durable.specs.Tables.{Named}
 use Rattle.dm_tables.specs.Totals.{total, weight_at}
 use Rattle.dm_tables.proofs.Orders.{paths}

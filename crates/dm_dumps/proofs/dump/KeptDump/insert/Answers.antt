@@ -1,7 +1,7 @@
-use Rattle.std.proofs.Common.{◌≡◌, ap, ◌∙◌, sym, ◌%◌, ◌^◌}
+use Rattle.std.proofs.Common.{ap, ◌∙◌, sym, ◌%◌, ◌^◌}
 use Rattle.std.specs.FinMap as map
 use Rattle.dm_durable.specs.Dumps.{bytes_kept}
-use Rattle.dm_tables.specs.Totals.{total, weight_at}
+use Rattle.dm_tables.specs.Totals.{weight_at}
 use Rattle.dm_dumps.proofs.Sizes.{size_put, itself}
 use Rattle.dm_dumps.proofs.dump.KeptDump.insert.Goals as goal
 

@@ -1,4 +1,4 @@
-use Rattle.std.proofs.Common.{◌≡◌, ap, ◌∙◌, sym, arith, ◌≤◌}
+use Rattle.std.proofs.Common.{ap, ◌∙◌, sym, arith, ◌≤◌}
 use Rattle.std.specs.FinMap as map
 use Rattle.dm_durable.specs.Dumps.{file_dumped_if}
 use Rattle.dm_dumps.proofs.Making.{dumping_begun, dumping_on, none_left, all_dumped}

@@ -1,7 +1,5 @@
-use Rattle.std.proofs.Common.{◌≡◌, ap, ◌∙◌, sym, ◌%◌, ◌^◌}
-use Rattle.std.specs.FinMap as map
+use Rattle.std.proofs.Common.{ap, ◌∙◌, sym, ◌%◌, ◌^◌}
 use Rattle.dm_durable.specs.Dumps.{dump_size}
-use Rattle.dm_tables.specs.Totals.{weight_at}
 use Rattle.dm_dumps.proofs.Sizes.{size_put}
 use Rattle.dm_dumps.proofs.dumps.Dumps.insert.Goals as goal
 

@@ -1,4 +1,4 @@
-use Rattle.std.proofs.Common.{◌≡◌, ap, ◌∙◌, sym, ◌%◌, ◌^◌}
+use Rattle.std.proofs.Common.{ap, ◌∙◌, sym, ◌%◌, ◌^◌}
 use Rattle.dm_durable.specs.Daemon.{size_of_dumps}
 use Rattle.dm_durable.proofs.Sizes.{size_aged}
 use Rattle.dm_dumps.proofs.dumps.Dumps.lower.Goals as goal

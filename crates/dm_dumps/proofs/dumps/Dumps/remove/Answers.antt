@@ -1,4 +1,3 @@
-use Rattle.std.proofs.Common.{◌≡◌, ap, ◌∙◌, sym, ◌%◌, ◌^◌}
 use Rattle.dm_durable.specs.Dumps.{dump_size}
 use Rattle.dm_dumps.proofs.Sizes.{size_out}
 use Rattle.dm_dumps.proofs.dumps.Dumps.remove.Goals as goal
