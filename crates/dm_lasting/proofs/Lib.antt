@@ -1,0 +1,4 @@
+-- How a copy comes to be stored.
+pub mod StoredBy
+pub mod Planned
+pub mod EventsStore

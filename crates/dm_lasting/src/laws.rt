@@ -1,0 +1,20 @@
+//! What is proved, as contracts of functions that do nothing.
+ghost use Rattle.std.specs.Prelude.{◌≡◌, ℕ};
+ghost use Rattle.dm_durable.specs.declared.daemon.DaemonStep.{DaemonStep};
+ghost use Rattle.dm_durable.specs.declared.daemon.DaemonTables.{DaemonTables};
+ghost use Rattle.dm_durable.specs.Daemon.{after_step};
+ghost use Rattle.dm_model.specs.declared.answer.Answer.{Answer};
+ghost use Rattle.dm_model.specs.declared.call.Event.{Event};
+ghost use Rattle.dm_model.specs.declared.state.Joint.{Joint};
+ghost use Rattle.dm_model.specs.Step.{Stepped, step};
+ghost use Rattle.dm_lasting.specs.Comes.{IsStoredOf, NotStored, StoredBy, Unstored};
+
+/// A group's copy of a bitfile of which no entry says that it is stored, and no step in doubt, is so after each legal event but the
+/// daemon's call, answered or failed, that says of an open request of the bitfile that this group's copy is stored
+/// (docs/DEFINITIONS.md, "Copies that aren't stored"). So it is whatever lands, and over a stop; and no other step makes it so.
+pub fn stored_by_call()
+    ensures steps { (t : DaemonTables) (s : DaemonStep) (b g : ℕ) → (IsStoredOf b g s → ⊥) → NotStored t.entries b g
+        → NotStored (after_step t s).entries b g }
+    ensures events { (j k : Joint) (w : ℕ) (e : Event) (a : Answer) (b g : ℕ) → Unstored j.daemon b g → (StoredBy j.daemon b g e → ⊥)
+        → step j w e ≡ Stepped k a → Unstored k.daemon b g }
+{}
