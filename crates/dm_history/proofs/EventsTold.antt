@@ -96,7 +96,7 @@ abbrev answer_in : Answer → Outcome → Answer
 answer_in a (Stepped k b) = b
 answer_in a (Illegal g) = a
 
-outcome_is : (g : Option Guard) (after k : Joint) (b a : Answer) → outcome_of g after b ≡ Stepped k a → (after ≡ k) × (b ≡ a)
+pub outcome_is : (g : Option Guard) (after k : Joint) (b a : Answer) → outcome_of g after b ≡ Stepped k a → (after ≡ k) × (b ≡ a)
 outcome_is None after k b a is = (ap (state_after after) is, ap (answer_in b) is)
 outcome_is (Some g) after k b a is = absurd (illegal g k a is)
   where

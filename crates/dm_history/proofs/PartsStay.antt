@@ -61,7 +61,7 @@ less_then (Some x) None c h k = absurd h
 less_then (Some x) (Some y) None h k = absurd k
 less_then (Some x) (Some y) (Some z) h k = (h.0 ∙ k.0, λ place b t. h.1 place b (k.1 place b t))
 
-part_self : (p : Part) (a : Option SideState) → PartsAlike p a a
+pub part_self : (p : Part) (a : Option SideState) → PartsAlike p a a
 part_self part.Itself a = refl
 part_self (part.Volume v) None = tt
 part_self (part.Volume v) (Some s) = less_self (fin.get s.images v.0)

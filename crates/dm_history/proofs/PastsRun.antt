@@ -15,7 +15,7 @@ pub state-last : (j : Joint) (xs : List (ℕ × Entry)) (a : ℕ × Entry) → s
 state-last j [] a = refl
 state-last j (x ∷ xs) a = state-last (joint_after j x.1) xs a
 
-joined_on : (xs ys : List (ℕ × Entry)) (a : ℕ × Entry) → (xs ++ a ∷ []) ++ ys ≡ xs ++ a ∷ ys
+pub joined_on : (xs ys : List (ℕ × Entry)) (a : ℕ × Entry) → (xs ++ a ∷ []) ++ ys ≡ xs ++ a ∷ ys
 joined_on [] ys a = refl
 joined_on (x ∷ xs) ys a = ap (λ zs. x ∷ zs) (joined_on xs ys a)
 

@@ -1,5 +1,5 @@
 -- When two joint states have the same of a name.
-use Rattle.std.specs.Prelude.{◌≡◌, ℕ, Option, None, Some, List}
+use Rattle.std.specs.Prelude.{◌≡◌, ℕ, Option, None, Some, is_some, List}
 use Rattle.std.specs.FinMap as map
 use Rattle.dm_model.specs.declared.entry.Name.{Name}
 use Rattle.dm_model.specs.declared.entry.Name.TheVariants.{Daemon, Worker, Side}
@@ -53,3 +53,7 @@ abbrev pub Alike : Name → Joint → Joint → Type 0
 Alike Daemon j k = j.daemon ≡ k.daemon
 Alike (Worker w) j k = map.get j.workers w ≡ map.get k.workers w
 Alike (Side g p) j k = PartsAlike p (map.get j.sides g.0) (map.get k.sides g.0)
+
+-- the same groups are configured in both
+abbrev pub SameGroups : Joint → Joint → Type 0
+SameGroups j k = (g : ℕ) → is_some (map.get j.sides g) ≡ is_some (map.get k.sides g)

@@ -44,11 +44,15 @@ pub record Taken (j : Joint) (e : Entry) : Type 0 where
 abbrev pub MadeIn : Name → List (ℕ × Entry) → Type 0
 MadeIn x xs = (a : ℕ × Entry) × In a xs × In x (made_by a.1.event a.1.answer)
 
+-- the name is fixed, or an entry of the past made it
+abbrev pub Rooted : Begun → Name → List (ℕ × Entry) → Type 0
+Rooted begun x xs = In x (fixed_names begun.opened begun.workers) ⊎ MadeIn x xs
+
 -- the entry may come after the past xs
 pub record Needed (begun : Begun) (xs : List (ℕ × Entry)) (e : Entry) : Type 0 where
   pub taken : Taken (state_seen begun.opened xs) e
   -- each name that it is about is fixed, or was made
-  pub rooted : (x : Name) → is_about e x ≡ true → In x (fixed_names begun.opened begun.workers) ⊎ MadeIn x xs
+  pub rooted : (x : Name) → is_about e x ≡ true → Rooted begun x xs
   -- what it makes is new
   pub fresh : (x : Name) → In x (made_by e.event e.answer) → MadeIn x xs → ⊥
 

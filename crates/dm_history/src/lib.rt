@@ -6,4 +6,4 @@
 
 mod laws;
 
-pub use laws::{names_lawful, names_told, past_is_run, past_kept};
+pub use laws::{kept_same, names_decided, names_lawful, names_told, past_is_run, past_kept};

@@ -1,4 +1,5 @@
 use Rattle.dm_invariant.proofs.KeptSound.{kept_sound}
+use Rattle.dm_shown.proofs.BitfilesThere.{request_there}
 use Rattle.dm_runs.proofs.EventsKept.{run_kept_along, run_shows}
 use Rattle.dm_runs.proofs.RunsEnd.{run_ends}
 use Rattle.dm_runs.proofs.SumsTell.{reads_tell}
@@ -26,3 +27,8 @@ returns-clause-shown c begun xs opened rises legal apart =
     let run = past_runs begun xs opened rises legal in
     run_shows begun.opened (run_of xs) (state_seen begun.opened xs) opened
     (reads_tell begun.opened (run_of xs) (state_seen begun.opened xs) opened apart run) run
+
+pub returns-clause-there : goal.returns-clause-there
+returns-clause-there c begun xs opened rises legal apart =
+    request_there (state_seen begun.opened xs)
+    (run_ends begun.opened (run_of xs) (state_seen begun.opened xs) opened apart (past_runs begun xs opened rises legal))
