@@ -1,12 +1,12 @@
 -- No event but the daemon's own call, answered or failed, makes a copy a stored one, or leaves it in doubt whether it is.
-use Rattle.std.proofs.Common.{◌≡◌, ℕ, Bool, true, false, cond, ◌&&◌, Option, None, Some, option_map, refl, sym, ap, subst, ◌∙◌}
+use Rattle.std.proofs.Common.{◌≡◌, ℕ, Bool, true, false, cond, ◌&&◌, Option, None, Some, option_map, ap, subst, ◌∙◌}
 use Rattle.std.specs.FinMap as map
 use Rattle.dm_base.specs.declared.identifier.GroupId.{GroupId}
 use Rattle.dm_durable.specs.declared.daemon.DaemonRecord.{DaemonRecord}
 use Rattle.dm_durable.specs.declared.daemon.DaemonStep.TheVariants.{Restart}
 use Rattle.dm_durable.specs.declared.daemon.DaemonTables.{DaemonTables}
 use Rattle.dm_durable.specs.declared.group.GroupRecord.{GroupRecord}
-use Rattle.dm_durable.specs.Daemon.{after_record, after_stop as tables_after_stop}
+use Rattle.dm_durable.specs.Daemon.{after_record}
 use Rattle.dm_durable.specs.Inodes.{has_making}
 use Rattle.dm_model.specs.declared.answer.Answer.{Answer}
 use Rattle.dm_model.specs.declared.call.Call.{Call}
@@ -25,7 +25,7 @@ use Rattle.dm_model.specs.declared.plan.Prepared.{Prepared}
 use Rattle.dm_model.specs.declared.state.Daemon.{Daemon}
 use Rattle.dm_model.specs.declared.state.Joint.{Joint}
 use Rattle.dm_model.specs.declared.state.Side.{Side}
-use Rattle.dm_model.specs.DaemonShare.{daemon_after_call, daemon_after_ending, daemon_after_fault, daemon_after_opening, daemon_after_payload, daemon_after_stop, daemon_doubting, daemon_without_doubt}
+use Rattle.dm_model.specs.DaemonShare.{daemon_after_call, daemon_after_ending, daemon_after_fault, daemon_after_opening, daemon_after_payload, daemon_doubting, daemon_without_doubt}
 use Rattle.dm_model.specs.Plan.{illegal_call, illegal_fault, prepared}
 use Rattle.dm_model.specs.Step.{Stepped, after_call, after_fault, after_landing, after_stop, landed_doubt, landed_in, needs_of, plan_of, step}
 use Rattle.dm_model.proofs.Shares.{PaysOf}

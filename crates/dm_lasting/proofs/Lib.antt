@@ -2,3 +2,4 @@
 pub mod StoredBy
 pub mod Planned
 pub mod EventsStore
+pub mod PutsBegin
