@@ -3,3 +3,5 @@ pub mod StoredBy
 pub mod Planned
 pub mod EventsStore
 pub mod PutsBegin
+pub mod RequestsNew
+pub mod NumbersRise

@@ -16,6 +16,8 @@ ghost use Rattle.dm_model.specs.declared.state.Joint.{Joint};
 ghost use Rattle.dm_model.specs.Step.{Stepped, step};
 ghost use Rattle.dm_invariant.specs.Kept.{Kept};
 ghost use Rattle.dm_lasting.specs.Begun.{PutBegins};
+ghost use Rattle.dm_lasting.specs.Rise.{RequestsRise};
+ghost use Rattle.dm_shown.specs.Along.{GoesOn};
 ghost use Rattle.dm_lasting.specs.Comes.{IsStoredOf, NotStored, StoredBy, Unstored};
 
 /// A group's copy of a bitfile of which no entry says that it is stored, and no step in doubt, is so after each legal event but the
@@ -36,4 +38,12 @@ pub fn put_begun()
         (change : ℕ) → Kept j
         → step j w (event.Call (call.Daemon (daemon_call.BeginPut path asked now m))) ≡ Stepped k (answer.PutBegun n b bytes change)
         → PutBegins j k path n b.0 bytes }
+{}
+
+/// The number of the daemon's next request never falls by a legal event but a stop; and each request that such an event opens has a
+/// number that is the next one before it or a later one, and below the next one after it (docs/DEFINITIONS.md, "Numbers that
+/// rise"). So, where each open request has a number below the next one, none comes again while the program runs.
+pub fn numbers_rise()
+    ensures requests { (j k : Joint) (w : ℕ) (e : Event) (a : Answer) → GoesOn e → step j w e ≡ Stepped k a
+        → RequestsRise j.daemon k.daemon }
 {}
