@@ -15,6 +15,10 @@ pub enum ReadError {
 }
 
 impl From<Want> for ReadError {
+    ghost use Rattle.dm_fields.specs.declared.input.ReadError.TheVariants.{NoMemory};
+
+    ghost from_gives = { λ _ e. e ≡ NoMemory };
+
     fn from(_refused: Want) -> ReadError {
         ReadError::NoMemory
     }
