@@ -1,4 +1,5 @@
 pub mod Numbers
+pub mod Identifiers
 pub mod Version
 pub mod Label
 pub mod Zone
