@@ -22,6 +22,10 @@ use Rattle.dm_durable.specs.Inodes.{bitfile_in, bytes_online, length_of, has_mak
 use Rattle.dm_durable.specs.Entries.{after_letting_go, after_letting_go_if, new_entry, with_copy_of, with_deletion_time, without_deletion_time, as_dropping}
 use Rattle.dm_durable.specs.Dumps.{new_dump, with_least, file_in, bitfile_dumped, as_restored, dump_size}
 
+-- a bitfile's identifier: the site in the upper 64 bits, the counter in the lower 64
+abbrev pub bfid_of : ℕ → ℕ → ℕ
+bfid_of site counter = site * 2 ^ 64 + counter
+
 -- the bytes of all files, online or not, and those that are kept in dumps
 abbrev pub size_of_files : Numbered Inode → ℕ
 size_of_files inodes = total (λ i. length_of i.contents) inodes

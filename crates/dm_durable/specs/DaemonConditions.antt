@@ -22,7 +22,7 @@ use Rattle.dm_durable.specs.Limits.{AreGroups}
 use Rattle.dm_durable.specs.Inodes.{has_making}
 use Rattle.dm_durable.specs.Entries.{asks, has_stored, is_stored, is_complete, is_due}
 use Rattle.dm_durable.specs.Dumps.{is_young}
-use Rattle.dm_rules.specs.Identifiers.{bfid_of}
+use Rattle.dm_durable.specs.Daemon.{bfid_of}
 
 -- the next change
 pub record IsNextChange (t : DaemonTables) (change : ℕ) : Type 0 where

@@ -28,8 +28,7 @@ use Rattle.dm_durable.specs.Limits.{IsFirstNumber, AreGroups, IsPast}
 use Rattle.dm_durable.specs.Inodes.{bitfile_of, length_of}
 use Rattle.dm_durable.specs.Entries.{groups_asked}
 use Rattle.dm_durable.specs.Dumps.{bitfile_dumped, length_dumped}
-use Rattle.dm_durable.specs.Daemon.{after_record, empty_tables}
-use Rattle.dm_rules.specs.Identifiers.{bfid_of}
+use Rattle.dm_durable.specs.Daemon.{after_record, bfid_of, empty_tables}
 use Rattle.dm_durable.specs.DaemonConditions.{MayFollow, OneOrTwo}
 
 -- what the payloads of a journal tell

@@ -9,8 +9,7 @@ use Rattle.dm_tables.specs.Rows.{EachRow}
 use Rattle.dm_tables.proofs.Any.{any-false}
 use Rattle.dm_tables.proofs.Orders.{numbers}
 use Rattle.dm_tables.proofs.Rows.{get-here, one_row}
-use Rattle.dm_durable.specs.Daemon.{after_begin_put, after_begin_put_at, after_record}
-use Rattle.dm_rules.specs.Identifiers.{bfid_of}
+use Rattle.dm_durable.specs.Daemon.{after_begin_put, after_begin_put_at, after_record, bfid_of}
 use Rattle.dm_durable.specs.Entries.{groups_asked, new_entry}
 use Rattle.dm_durable.specs.Inodes.{as_making, bytes_online, with_contents}
 use Rattle.dm_durable.specs.declared.daemon.DaemonStep.TheVariants.{BeginPut}

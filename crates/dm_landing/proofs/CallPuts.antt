@@ -9,7 +9,7 @@ use Rattle.dm_tables.proofs.Orders.{numbers}
 use Rattle.dm_tables.proofs.Rows.{one_row, removed}
 use Rattle.dm_durable.specs.Tables.{Numbered}
 use Rattle.dm_durable.specs.Limits.{IsGroupNumber, AreGroups}
-use Rattle.dm_rules.specs.Identifiers.{bfid_of}
+use Rattle.dm_durable.specs.Daemon.{bfid_of}
 use Rattle.dm_durable.specs.DaemonConditions.{OneOrTwo, MayStore, MayEndPut, MayRelease}
 use Rattle.dm_durable.specs.Entries.{asks}
 use Rattle.dm_durable.specs.declared.daemon.Contents.TheVariants.{Making}

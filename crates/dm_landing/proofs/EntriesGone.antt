@@ -14,8 +14,7 @@ use Rattle.dm_durable.specs.declared.daemon.Inode.{Inode}
 use Rattle.dm_durable.specs.Tables.{Numbered}
 use Rattle.dm_durable.specs.Inodes.{is_named}
 use Rattle.dm_durable.specs.Entries.{after_letting_go_if, has_stored, groups_asked, is_due, with_copy_of, without_deletion_time, as_dropping}
-use Rattle.dm_durable.specs.Daemon.{with_dropping, with_named}
-use Rattle.dm_rules.specs.Identifiers.{bfid_of}
+use Rattle.dm_durable.specs.Daemon.{bfid_of, with_dropping, with_named}
 use Rattle.dm_durable.specs.DaemonConditions.{MayBeTaken}
 use Rattle.dm_durable.specs.DaemonJournal.{MayBeEntry}
 use Rattle.dm_model.specs.declared.state.OpenRequest.{OpenRequest}

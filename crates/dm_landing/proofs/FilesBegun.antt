@@ -22,8 +22,7 @@ use Rattle.dm_durable.specs.Tables.{Numbered}
 use Rattle.dm_durable.specs.Inodes.{bitfile_in, bitfile_of, bytes_online, is_named, length_of, as_making, with_contents}
 use Rattle.dm_durable.specs.Entries.{after_letting_go_if, is_stored, new_entry, without_deletion_time}
 use Rattle.dm_durable.specs.Dumps.{as_restored, bitfile_dumped}
-use Rattle.dm_durable.specs.Daemon.{size_of_files, size_of_dumps, with_named}
-use Rattle.dm_rules.specs.Identifiers.{bfid_of}
+use Rattle.dm_durable.specs.Daemon.{bfid_of, size_of_files, size_of_dumps, with_named}
 use Rattle.dm_durable.specs.DaemonConditions.{IsNextChange, IsThere, MayBeMade, OneOrTwo}
 use Rattle.dm_durable.specs.DaemonJournal.{IsGiven, MayBeDumpFile, MayBeEntry, MayBeNamed}
 use Rattle.dm_durable.specs.Limits.{AreGroups}

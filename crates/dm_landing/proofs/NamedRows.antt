@@ -7,7 +7,7 @@ use Rattle.dm_durable.specs.declared.daemon.DumpInode.{DumpInode}
 use Rattle.dm_durable.specs.declared.daemon.Entry.{Entry}
 use Rattle.dm_durable.specs.declared.daemon.Inode.{Inode}
 use Rattle.dm_durable.specs.Tables.{Numbered, Named}
-use Rattle.dm_rules.specs.Identifiers.{bfid_of}
+use Rattle.dm_durable.specs.Daemon.{bfid_of}
 use Rattle.dm_durable.specs.DaemonJournal.{IsGiven, HasLength, MayBeNamed, IsChange, MayBeInode, MayBeEntry, MayBeDumpFile, MayBeDump}
 use Rattle.dm_invariant.proofs.Times.{still_past}
 

@@ -23,8 +23,7 @@ use Rattle.dm_durable.specs.Tables.{Numbered}
 use Rattle.dm_durable.specs.Inodes.{bitfile_of, bytes_online}
 use Rattle.dm_durable.specs.Entries.{after_letting_go_if, as_dropping, new_entry, with_copy_of, with_deletion_time, without_deletion_time}
 use Rattle.dm_durable.specs.Dumps.{bitfile_dumped, file_in}
-use Rattle.dm_durable.specs.Daemon.{after_begin_put, after_begin_put_at, after_end_put, after_record, after_release, after_remove, after_restore, after_step, with_dropping, with_named}
-use Rattle.dm_rules.specs.Identifiers.{bfid_of}
+use Rattle.dm_durable.specs.Daemon.{bfid_of, after_begin_put, after_begin_put_at, after_end_put, after_record, after_release, after_remove, after_restore, after_step, with_dropping, with_named}
 use Rattle.dm_durable.specs.DaemonConditions.{MayBeginPut, MayBeTaken, MayHardDelete, MayStep}
 use Rattle.dm_durable.specs.DaemonJournal.{IsGiven}
 use Rattle.dm_model.specs.declared.state.Daemon.{Daemon}

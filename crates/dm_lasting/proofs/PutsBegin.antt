@@ -13,7 +13,7 @@ use Rattle.dm_tables.proofs.Orders.{numbers}
 use Rattle.dm_tables.proofs.Rows.{get-here}
 use Rattle.dm_durable.specs.declared.daemon.Contents.{Contents}
 use Rattle.dm_durable.specs.declared.daemon.Contents.TheVariants.{Regular, Making, Dual, Offline}
-use Rattle.dm_rules.specs.Identifiers.{bfid_of}
+use Rattle.dm_durable.specs.Daemon.{bfid_of}
 use Rattle.dm_durable.specs.DaemonConditions.{MayBeMade}
 use Rattle.dm_durable.specs.Inodes.{bytes_online}
 use Rattle.dm_durable.specs.Tables.{Numbered}

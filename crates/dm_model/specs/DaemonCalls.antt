@@ -22,8 +22,7 @@ use Rattle.dm_durable.specs.declared.daemon.Dump.{Dump}
 use Rattle.dm_durable.specs.declared.daemon.DumpInode.{DumpInode}
 use Rattle.dm_durable.specs.declared.daemon.Entry.{Entry}
 use Rattle.dm_durable.specs.declared.daemon.Inode.{Inode}
-use Rattle.dm_durable.specs.Daemon.{size_of}
-use Rattle.dm_rules.specs.Identifiers.{bfid_of}
+use Rattle.dm_durable.specs.Daemon.{bfid_of, size_of}
 use Rattle.dm_durable.specs.Dumps.{dump_size, file_in, is_young, length_dumped, new_dump}
 use Rattle.dm_durable.specs.Entries.{asks, groups_asked, has_stored, is_due, is_stored}
 use Rattle.dm_durable.specs.Inodes.{bytes_online}

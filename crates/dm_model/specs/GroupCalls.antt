@@ -56,7 +56,7 @@ use Rattle.dm_model.specs.Guards.{Guarded}
 use Rattle.dm_model.specs.Plan.{Plan, Needs, quiet, asking, nothing}
 use Rattle.dm_model.specs.Volumes.{all_volumes, epoch_of, is_configured, mount_refusal, usage_of}
 use Rattle.dm_rules.specs.declared.space.Space.{Space}
-use Rattle.dm_rules.specs.Numbers.{greater, narrowed, past_u32}
+use Rattle.dm_rules.specs.Numbers.{greater, narrowed}
 use Rattle.dm_rules.specs.Plan.{rooms, chunks_of}
 use Rattle.dm_rules.specs.Version.{has_sum}
 use Rattle.dm_rules.specs.Zone.{chunk_count, chunk_sum, zone_of}
@@ -266,7 +266,7 @@ commit g group n sums now (Some r) =
 
 -- a zone's header has 32 bits for how many chunks the zone has
 abbrev pub zone_chunks_limit : ℕ
-zone_chunks_limit = past_u32
+zone_chunks_limit = 2 ^ 32
 
 -- the piece is a part of these bytes, and can be one zone
 abbrev pub is_part : List ℕ → Reserved → Piece → Bool

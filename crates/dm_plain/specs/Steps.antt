@@ -3,7 +3,6 @@ use Rattle.std.specs.Prelude.{ℕ, ◌+◌, ◌≤◌, List, Option, length}
 use Rattle.std.specs.Option.{option_and_then, option_map_or}
 use Rattle.std.specs.FinMap as map
 use Rattle.dm_tables.specs.Rows.{map_values}
-use Rattle.dm_base.specs.Limits.{file_limit}
 use Rattle.dm_rules.specs.Numbers.{lesser}
 use Rattle.dm_plain.specs.Namespace.{Namespace, Dumped, bytes_of, bytes_in, dump_of, written}
 use Rattle.dm_plain.specs.Patching.{patched}
@@ -58,7 +57,7 @@ after (Time now) ns = record ns { now = now.0 }
 
 -- the range of a patch ends within 16 MiB
 abbrev pub EndsInLimit : PlainStep → Type 0
-EndsInLimit (Patch path offset bytes) = offset + length bytes ≤ file_limit
+EndsInLimit (Patch path offset bytes) = offset + length bytes ≤ 16777216
 EndsInLimit _ = Unit {0}
 
 -- the step makes or copies something, for which memory may be refused

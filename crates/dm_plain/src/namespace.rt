@@ -2,7 +2,6 @@
 
 ghost use Rattle.std.specs.Prelude.{◌≡◌, ◌+◌, ◌≤◌, length, OnErr, OnOk};
 ghost use Rattle.std.specs.Option.{option_copied, option_map};
-ghost use Rattle.dm_base.specs.Limits.{file_limit};
 ghost use Rattle.dm_plain.specs.Namespace.{bytes_of, no_files, written};
 ghost use Rattle.dm_plain.specs.Steps.{after, bytes_dumped, range_replaced, restored, with_age, with_dump, without_dump, without_file, EndsInLimit, TakesMemory};
 
@@ -113,7 +112,7 @@ impl Plain {
         offset: u64,
         piece: &[u8],
     ) -> Result<(), NoMemory>
-        requires { offset + length piece.now ≤ file_limit }
+        requires { offset + length piece.now ≤ 16777216 }
         ensures ok { OnOk result (self.new ≡ range_replaced path.now offset piece.now self.old) }
         ensures err { OnErr result (self.new ≡ self.old) }
     {

@@ -1,7 +1,6 @@
 //! Replacing a range of a file's bytes.
 
 ghost use Rattle.std.specs.Prelude.{◌≡◌, ◌+◌, ◌≤◌, length, OnErr, OnOk};
-ghost use Rattle.dm_base.specs.Limits.{file_limit};
 ghost use Rattle.dm_plain.specs.Patching.{lengthened, overlaid, patched};
 
 use dm_base::{Bytes, NoMemory};
@@ -15,7 +14,7 @@ pub(crate) fn patch(
     offset: u64,
     piece: &[u8],
 ) -> Result<(), NoMemory>
-    requires { offset + length piece.now ≤ file_limit }
+    requires { offset + length piece.now ≤ 16777216 }
     ensures ok { OnOk result (bytes.new ≡ patched offset piece.now bytes.old) }
     ensures err { OnErr result (bytes.new ≡ bytes.old) }
 {
@@ -28,7 +27,7 @@ pub(crate) fn patch(
 
 // Writes a piece over the bytes at a place, which are lengthened with zeros where it ends past their end.
 fn write_over(bytes: &mut Vec<u8>, place: usize, piece: &[u8]) -> Result<(), AllocError>
-    requires { place + length piece.now ≤ file_limit }
+    requires { place + length piece.now ≤ 16777216 }
     ensures ok { OnOk result (bytes.new.items ≡ overlaid place piece.now (lengthened (place + length piece.now) bytes.old.items)) }
     ensures err { OnErr result (bytes.new.items ≡ bytes.old.items) }
 {

@@ -1,6 +1,5 @@
 ghost use Rattle.std.specs.Prelude.{◌≡◌, ◌+◌, ◌≤◌, length, IfOk};
 
-ghost use Rattle.dm_base.specs.Limits.{file_limit};
 use super::*;
 use dm_base::{Bytes, DumpName, NoMemory, Path, Secs};
 use std::alloc::Global;
@@ -35,7 +34,7 @@ fn patch(
     offset: u64,
     piece: &[u8],
 ) -> Result<(), NoMemory>
-    requires { offset + length piece.now ≤ file_limit }
+    requires { offset + length piece.now ≤ 16777216 }
 {
     let step = PlainStep::Patch {
         path: path(alloc, text)?,

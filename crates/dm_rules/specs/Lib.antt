@@ -1,5 +1,4 @@
 pub mod Numbers
-pub mod Identifiers
 pub mod Version
 pub mod Label
 pub mod Zone

@@ -1,5 +1,5 @@
 -- Numbers of 64 bits.
-use Rattle.std.specs.Prelude.{ℕ, ◌+◌, ◌-◌, ◌^◌}
+use Rattle.std.specs.Prelude.{ℕ, ◌+◌, ◌-◌}
 
 -- the lesser of two
 abbrev pub lesser : ℕ → ℕ → ℕ
@@ -12,10 +12,6 @@ greater m n = m + (n - m)
 -- the greatest number of 64 bits
 abbrev pub last_u64 : ℕ
 last_u64 = 18446744073709551615
-
--- one above the greatest number of 32 bits, and so of what a count of four bytes says
-abbrev pub past_u32 : ℕ
-past_u32 = 2 ^ 32
 
 -- a number as 64 bits hold it: one that passes them stands at their last value. No state that a run of this product
 -- reaches comes near

@@ -21,8 +21,7 @@ use Rattle.dm_durable.specs.declared.daemon.DumpInode.{DumpInode}
 use Rattle.dm_durable.specs.declared.daemon.DumpInode.TheVariants.{Kept as KeptFile, Named as NamedFile}
 use Rattle.dm_durable.specs.declared.daemon.Entry.{Entry}
 use Rattle.dm_durable.specs.declared.daemon.Inode.{Inode}
-use Rattle.dm_durable.specs.Daemon.{after_begin_put, after_begin_put_at, after_record, after_release, after_remove, after_restore, after_step, number_or}
-use Rattle.dm_rules.specs.Identifiers.{bfid_of}
+use Rattle.dm_durable.specs.Daemon.{after_begin_put, after_begin_put_at, after_record, after_release, after_remove, after_restore, after_step, bfid_of, number_or}
 use Rattle.dm_durable.specs.DaemonConditions.{MayBeMade, MayBeginPut, MayFollow, MayRestore, MayStep, MayWrite}
 use Rattle.dm_durable.specs.DaemonJournal.{IsGiven, MayBeDumpFile, MayBeNamed}
 use Rattle.dm_durable.specs.Dumps.{as_restored, file_dumped, file_dumped_if, file_in, files_dumped, is_young, new_dump, with_least}

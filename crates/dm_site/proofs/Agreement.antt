@@ -20,7 +20,7 @@ use Rattle.dm_site.specs.declared.file.Form.TheVariants as form
 use Rattle.dm_site.specs.Files.{Sets}
 use Rattle.dm_site.specs.State.{State, Holds, HoldsIf, Agrees}
 use Rattle.dm_site.specs.Zones.{IsZone}
-use Rattle.dm_site.specs.Rules.{Writes, bitfile_of, tip_after}
+use Rattle.dm_site.specs.Rules.{Writes, bfid_of, tip_after}
 use Rattle.dm_site.specs.Session.{Counts, ReadIs, plain_step}
 use Rattle.dm_site.proofs.Tables.{cases_path}
 
@@ -130,7 +130,7 @@ pub zone_some : (zone bytes : List ℕ) → IsZone zone bytes → 0 < length zon
 zone_some zone [] z some = absurd (omega (arith, ap length (z.none refl), some))
 zone_some zone (b ∷ bytes) z some = omega arith
 
-pub bfid_is : (bfid : Bfid) (counter : ℕ) → bfid.0 ≡ 1 * 2 ^ 64 + counter → bfid ≡ bitfile_of counter
+pub bfid_is : (bfid : Bfid) (counter : ℕ) → bfid.0 ≡ 1 * 2 ^ 64 + counter → bfid ≡ bfid_of counter
 bfid_is bfid counter e = ap (λ (n : ℕ). let b : Bfid = record { 0 = n } in b) e
 
 -- the zone that was handed on is that of the file's bytes
