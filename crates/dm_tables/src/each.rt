@@ -4,7 +4,9 @@ ghost use Rattle.std.specs.Prelude.{◌≡◌, ℕ, Bool, IfOk};
 ghost use Rattle.dm_tables.specs.Rows.{any as any_row, map_values};
 ghost use Rattle.dm_tables.specs.Totals.{total as total_of};
 
+use crate::edit::TryEditAt;
 use crate::numbers::Numbers;
+use crate::texts::Texts;
 use dm_base::NoMemory;
 use std::alloc::Global;
 
@@ -49,6 +51,21 @@ impl<V> Numbers<V> {
         Ok(changed)
     }
 
+    /// The table with each row edited, in memory of its own.
+    pub fn edited<E: TryEditAt<V>>(self, alloc: Global, edit: &E) -> Result<Numbers<V>, NoMemory>
+    where
+        V: Drop,
+        ensures { IfOk result (λ edited. edited ≡ map_values (E.edited edit.now) self) }
+    {
+        let mut edited = Numbers::empty(alloc);
+        for (key, row) in self.into_entries() {
+            let mut row = row;
+            edit.try_edit_at(key, &mut row)?;
+            edited.insert(key, row)?;
+        }
+        Ok(edited)
+    }
+
     /// Whether some row passes.
     pub fn any<T: Test<V>>(&self, test: &T) -> bool
         ensures { result ≡ any_row (λ _. T.passes test.now) self.now }
@@ -70,5 +87,21 @@ impl<V> Numbers<V> {
             sum += u128::from(weight.weigh(row));
         }
         sum
+    }
+}
+
+impl<V> Texts<V> {
+    /// The table with each row changed, in memory of its own.
+    pub fn mapped<F: Change<V>>(self, alloc: Global, change: &F) -> Result<Texts<V>, NoMemory>
+    where
+        V: Drop,
+        ensures { IfOk result (λ changed. changed ≡ map_values (λ _. F.changed change.now) self) }
+    {
+        let mut changed = Texts::empty(alloc);
+        for (key, row) in self.into_entries() {
+            let row = change.change(row);
+            changed.insert(key, row)?;
+        }
+        Ok(changed)
     }
 }

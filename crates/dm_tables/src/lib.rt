@@ -6,11 +6,13 @@
 
 mod copied;
 mod each;
+mod edit;
 mod numbers;
 mod texts;
 
 pub use copied::Copied;
 pub use each::{Change, Test, Weight};
+pub use edit::{TryEdit, TryEditAt};
 pub use numbers::Numbers;
 pub use texts::Texts;
 

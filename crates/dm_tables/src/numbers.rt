@@ -5,8 +5,9 @@ ghost use Rattle.std.specs.List.{All};
 ghost use Rattle.std.specs.Option.{option_copied, option_map};
 ghost use Rattle.std.specs.FinMap as map;
 ghost use Rattle.std.specs.Map.Iter.{ShowsInOrder, deref_pair};
-ghost use Rattle.dm_tables.specs.Rows.{row_after};
+ghost use Rattle.dm_tables.specs.Rows.{adjust, row_after};
 
+use crate::edit::TryEdit;
 use dm_base::NoMemory;
 use std::alloc::Global;
 use std::collections::BTreeMap;
@@ -81,6 +82,17 @@ impl<V> Numbers<V> {
         match self.rows.get_mut(&key) {
             Some(row) => Some(mem::replace(row, value)),
             None => None,
+        }
+    }
+
+    /// Changes the row with this number where it stands, if it is there. Only the change may take memory;
+    /// where that is refused, nothing is said of the row.
+    pub fn edit<E: TryEdit<V>>(&mut self, key: u128, edit: &E) -> Result<(), NoMemory>
+        ensures { OnOk result (self.new ≡ adjust self.old key (E.edited edit.now)) }
+    {
+        match self.rows.get_mut(&key) {
+            Some(row) => edit.try_edit(row),
+            None => Ok(()),
         }
     }
 

@@ -124,6 +124,53 @@ fn changes_each_row_and_asks_it(rt: HostRuntime) -> Result<(), Fail> {
     Ok(())
 }
 
+impl TryEdit<u64> for Twice {
+    ghost use Rattle.std.specs.Prelude.{ℕ, ◌*◌, cond, nat_lt};
+
+    ghost edited = { λ _ row. cond (nat_lt row 1000) (row * 2) row };
+
+    fn try_edit(&self, row: &mut u64) -> Result<(), NoMemory> {
+        *row = self.change(*row);
+        Ok(())
+    }
+}
+
+struct Key;
+
+impl TryEditAt<u128> for Key {
+    ghost edited = { λ _ key row. key };
+
+    fn try_edit_at(&self, key: u128, row: &mut u128) -> Result<(), NoMemory> {
+        *row = key;
+        Ok(())
+    }
+}
+
+#[test]
+fn edits_rows_where_they_stand(rt: HostRuntime) -> Result<(), Fail> {
+    let alloc = rt.alloc();
+    let mut sizes = Numbers::empty(alloc);
+    sizes.insert(7, 3u64)?;
+    sizes.insert(9, 4)?;
+    sizes.edit(7, &Twice)?;
+    sizes.edit(8, &Twice)?;
+    assert_eq!(rt; sizes.get(7).copied(), Some(6));
+    assert_eq!(rt; sizes.get(9).copied(), Some(4));
+    assert_eq!(rt; sizes.len(), 2);
+    let mut names = Texts::empty(alloc);
+    names.insert(text(alloc, b"/a")?, 3u64)?;
+    names.edit(b"/a", &Twice)?;
+    names.edit(b"/b", &Twice)?;
+    let names = names.mapped(alloc, &Twice)?;
+    assert_eq!(rt; names.get(b"/a").copied(), Some(12));
+    assert_eq!(rt; names.len(), 1);
+    let mut keys = Numbers::empty(alloc);
+    keys.insert(5, 0u128)?;
+    let keys = keys.edited(alloc, &Key)?;
+    assert_eq!(rt; keys.get(5).copied(), Some(5));
+    Ok(())
+}
+
 #[test]
 fn copies_rows_by_text(rt: HostRuntime) -> Result<(), Fail> {
     let alloc = rt.alloc();

@@ -5,14 +5,15 @@ ghost use Rattle.std.specs.List.{All};
 ghost use Rattle.std.specs.Option.{option_copied, option_map};
 ghost use Rattle.std.specs.FinMap as map;
 ghost use Rattle.std.specs.Map.Iter.{ShowsInOrder, deref_pair};
-ghost use Rattle.dm_tables.specs.Rows.{any as any_row, row_after};
+ghost use Rattle.dm_tables.specs.Rows.{adjust, any as any_row, row_after};
 
 use crate::each::Test;
+use crate::edit::TryEdit;
 use dm_base::{Bytes, NoMemory};
 use std::alloc::Global;
 use std::cmp::Ordering;
 use std::collections::BTreeMap;
-use std::collections::btree_map::{Comparable, Iter};
+use std::collections::btree_map::{Comparable, IntoIter, Iter};
 use std::marker::Model;
 use std::mem;
 use std::ops::Bound;
@@ -87,12 +88,33 @@ impl<V> Texts<V> {
         }
     }
 
+    /// Changes the row with this text where it stands, if it is there. Only the change may take memory;
+    /// where that is refused, nothing is said of the row.
+    pub fn edit<E: TryEdit<V>>(&mut self, key: &[u8], edit: &E) -> Result<(), NoMemory>
+        ensures { OnOk result (self.new ≡ adjust self.old key.now (E.edited edit.now)) }
+    {
+        match self.rows.get_mut(Text(key)) {
+            Some(row) => edit.try_edit(row),
+            None => Ok(()),
+        }
+    }
+
     /// Takes the row out.
     pub fn remove(&mut self, key: &[u8]) -> Option<V>
         ensures value { result ≡ map.get self.old key.now }
         ensures removed { self.new ≡ map.remove self.old key.now }
     {
         self.rows.remove(Text(key))
+    }
+
+    // The rows with their texts, moved out, in the order of the texts.
+    pub(crate) fn into_entries(self) -> IntoIter<Bytes, V>
+    where
+        V: Drop,
+        ensures { result ≡ map.entries self }
+    {
+        let Texts { rows } = self;
+        rows.into_iter()
     }
 
     /// How many rows there are.
