@@ -1,10 +1,10 @@
 -- The place behind a zone.
 use Rattle.std.proofs.Common.{◌≡◌, ℕ, ◌+◌, ◌*◌, ◌/◌, ◌%◌, min, sym, ap, ◌∙◌, subst, zero-add, arith}
 use Rattle.std.proofs.Math.Nat.{div-zero, mod-zero}
-use Rattle.dm_rules.specs.Numbers.{narrowed}
+use Rattle.dm_rules.specs.Numbers.{as_word}
 use Rattle.dm_rules.specs.Zone.{chunk_count}
 
-pub end_narrowed : (r s last zone k len : ℕ) → r ≡ min s last → last ≡ 18446744073709551615 → s ≡ zone + 32 + 48 * k + len → r ≡ narrowed (zone + (32 + 48 * k + len))
+pub end_narrowed : (r s last zone k len : ℕ) → r ≡ min s last → last ≡ 18446744073709551615 → s ≡ zone + 32 + 48 * k + len → r ≡ as_word (zone + (32 + 48 * k + len))
 end_narrowed r s last zone k len least last_is is = omega arith
 
 pub end_sum : (a b c d e zone count k len : ℕ) → a ≡ zone → b ≡ 32 → c ≡ 48 → d ≡ count → count ≡ k → e ≡ len → a + b + c * d + e ≡ zone + 32 + 48 * k + len

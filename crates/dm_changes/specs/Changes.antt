@@ -25,7 +25,7 @@ use Rattle.dm_tables.specs.Rows.{adjust, map_values}
 use Rattle.dm_rules.specs.Version.{first_version}
 use Rattle.dm_rules.specs.Label.{first_zone}
 use Rattle.dm_rules.specs.Known.{Known}
-use Rattle.dm_rules.specs.Numbers.{narrowed}
+use Rattle.dm_rules.specs.Numbers.{as_word}
 use Rattle.dm_parts.specs.FirstVersion.{zone_end}
 use Rattle.dm_state.specs.Tables.{Numbered, Named}
 use Rattle.dm_state.specs.Inodes.{bytes_online}
@@ -179,7 +179,7 @@ copy_opened b len s = record s { copies = map.insert s.copies b (record { len = 
 -- each piece moves the tip of its volume behind its zone
 abbrev pub tips_moved : ℕ → List Piece → Named ℕ → Named ℕ
 tips_moved chunk [] tips = tips
-tips_moved chunk (p ∷ ps) tips = tips_moved chunk ps (map.insert tips p.vsn.0 (narrowed (zone_end first_version chunk p)))
+tips_moved chunk (p ∷ ps) tips = tips_moved chunk ps (map.insert tips p.vsn.0 (as_word (zone_end first_version chunk p)))
 
 abbrev pub reservation_opened : ℕ → Reserved → Side → Side
 reservation_opened n r s = record s {

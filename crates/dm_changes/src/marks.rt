@@ -2,7 +2,7 @@
 
 ghost use Rattle.std.specs.Prelude.{◌≡◌, ◌+◌, ◌<◌, ◌^◌, length, None, Some, IfOk};
 ghost use Rattle.std.specs.FinMap as map;
-ghost use Rattle.dm_rules.specs.Known.{forgotten, written};
+ghost use Rattle.dm_rules.specs.Known.{known_without_range, known_with_write};
 ghost use Rattle.dm_tables.specs.Rows.{adjust, map_values};
 ghost use Rattle.dm_changes.specs.Changes.{image_by, mount_labelled as mount_labelled_of, piece_spoiled as piece_spoiled_of, piece_written as piece_written_of, read_noted, read_noted_of, reads_or};
 
@@ -32,7 +32,7 @@ impl PieceWrite<'_> {
         mut sides: Numbers<Side>,
         group: u128,
     ) -> Result<Numbers<Side>, NoMemory>
-        ensures { IfOk result (λ t. t ≡ adjust sides group (λ s. piece_written_of self.now.bfid.0 self.now.index self.now.epoch self.now.zone.now (image_by self.now.vsn.0 (written self.now.place self.now.zone.now) s))) }
+        ensures { IfOk result (λ t. t ≡ adjust sides group (λ s. piece_written_of self.now.bfid.0 self.now.index self.now.epoch self.now.zone.now (image_by self.now.vsn.0 (known_with_write self.now.place self.now.zone.now) s))) }
     {
         let Some(side) = sides.remove(group) else {
             return Ok(sides);
@@ -42,7 +42,7 @@ impl PieceWrite<'_> {
     }
 
     fn marked_in(&self, alloc: Global, side: Side) -> Result<Side, NoMemory>
-        ensures { IfOk result (λ s. s ≡ piece_written_of self.now.bfid.0 self.now.index self.now.epoch self.now.zone.now (image_by self.now.vsn.0 (written self.now.place self.now.zone.now) side)) }
+        ensures { IfOk result (λ s. s ≡ piece_written_of self.now.bfid.0 self.now.index self.now.epoch self.now.zone.now (image_by self.now.vsn.0 (known_with_write self.now.place self.now.zone.now) side)) }
     {
         let side = side_written(alloc, side, self.vsn, self.place, self.zone.as_slice())?;
         let zone = WrittenZone {
@@ -60,7 +60,7 @@ impl PieceWrite<'_> {
         mut sides: Numbers<Side>,
         group: u128,
     ) -> Result<Numbers<Side>, NoMemory>
-        ensures { IfOk result (λ t. t ≡ adjust sides group (λ s. piece_spoiled_of self.now.bfid.0 self.now.index (image_by self.now.vsn.0 (forgotten self.now.place (length self.now.zone.now)) s))) }
+        ensures { IfOk result (λ t. t ≡ adjust sides group (λ s. piece_spoiled_of self.now.bfid.0 self.now.index (image_by self.now.vsn.0 (known_without_range self.now.place (length self.now.zone.now)) s))) }
     {
         let Some(side) = sides.remove(group) else {
             return Ok(sides);
@@ -70,7 +70,7 @@ impl PieceWrite<'_> {
     }
 
     fn spoiled_in(&self, alloc: Global, side: Side) -> Result<Side, NoMemory>
-        ensures { IfOk result (λ s. s ≡ piece_spoiled_of self.now.bfid.0 self.now.index (image_by self.now.vsn.0 (forgotten self.now.place (length self.now.zone.now)) side)) }
+        ensures { IfOk result (λ s. s ≡ piece_spoiled_of self.now.bfid.0 self.now.index (image_by self.now.vsn.0 (known_without_range self.now.place (length self.now.zone.now)) side)) }
     {
         let side = side_forgotten(alloc, side, self.vsn, self.place, self.zone.len())?;
         piece_spoiled(side, self.bfid, self.index)
@@ -95,7 +95,7 @@ impl LabelWrite<'_> {
         mut sides: Numbers<Side>,
         group: u128,
     ) -> Result<Numbers<Side>, NoMemory>
-        ensures { IfOk result (λ t. t ≡ adjust sides group (λ s. mount_labelled_of self.now.mount (Some self.now.epoch) (image_by self.now.vsn.0 (written 0 self.now.text.now) s))) }
+        ensures { IfOk result (λ t. t ≡ adjust sides group (λ s. mount_labelled_of self.now.mount (Some self.now.epoch) (image_by self.now.vsn.0 (known_with_write 0 self.now.text.now) s))) }
     {
         let Some(side) = sides.remove(group) else {
             return Ok(sides);
@@ -105,7 +105,7 @@ impl LabelWrite<'_> {
     }
 
     fn marked_in(&self, alloc: Global, side: Side) -> Result<Side, NoMemory>
-        ensures { IfOk result (λ s. s ≡ mount_labelled_of self.now.mount (Some self.now.epoch) (image_by self.now.vsn.0 (written 0 self.now.text.now) side)) }
+        ensures { IfOk result (λ s. s ≡ mount_labelled_of self.now.mount (Some self.now.epoch) (image_by self.now.vsn.0 (known_with_write 0 self.now.text.now) side)) }
     {
         let side = side_written(alloc, side, self.vsn, 0, self.text.as_slice())?;
         side_labelled(side, self.mount, Some(self.epoch))
@@ -119,7 +119,7 @@ impl LabelWrite<'_> {
         mut sides: Numbers<Side>,
         group: u128,
     ) -> Result<Numbers<Side>, NoMemory>
-        ensures { IfOk result (λ t. t ≡ adjust sides group (λ s. mount_labelled_of self.now.mount None (image_by self.now.vsn.0 (forgotten 0 (length self.now.text.now)) s))) }
+        ensures { IfOk result (λ t. t ≡ adjust sides group (λ s. mount_labelled_of self.now.mount None (image_by self.now.vsn.0 (known_without_range 0 (length self.now.text.now)) s))) }
     {
         let Some(side) = sides.remove(group) else {
             return Ok(sides);
@@ -129,7 +129,7 @@ impl LabelWrite<'_> {
     }
 
     fn spoiled_in(&self, alloc: Global, side: Side) -> Result<Side, NoMemory>
-        ensures { IfOk result (λ s. s ≡ mount_labelled_of self.now.mount None (image_by self.now.vsn.0 (forgotten 0 (length self.now.text.now)) side)) }
+        ensures { IfOk result (λ s. s ≡ mount_labelled_of self.now.mount None (image_by self.now.vsn.0 (known_without_range 0 (length self.now.text.now)) side)) }
     {
         let side = side_forgotten(alloc, side, self.vsn, 0, self.text.len())?;
         side_labelled(side, self.mount, None)
@@ -144,7 +144,7 @@ fn side_written(
     place: u64,
     bytes: &[u8],
 ) -> Result<Side, NoMemory>
-    ensures { IfOk result (λ s. s ≡ image_by vsn.0 (written place bytes.now) side) }
+    ensures { IfOk result (λ s. s ≡ image_by vsn.0 (known_with_write place bytes.now) side) }
 {
     side.images = image_written(alloc, side.images, vsn, place, bytes)?;
     Ok(side)
@@ -158,7 +158,7 @@ fn side_forgotten(
     place: u64,
     count: usize,
 ) -> Result<Side, NoMemory>
-    ensures { IfOk result (λ s. s ≡ image_by vsn.0 (forgotten place count) side) }
+    ensures { IfOk result (λ s. s ≡ image_by vsn.0 (known_without_range place count) side) }
 {
     side.images = image_forgotten(alloc, side.images, vsn, place, count)?;
     Ok(side)
@@ -211,7 +211,7 @@ fn image_written(
     place: u64,
     bytes: &[u8],
 ) -> Result<Texts<Image>, NoMemory>
-    ensures { IfOk result (λ t. t ≡ adjust images vsn.0 (λ i. record i { known = written place bytes.now i.known })) }
+    ensures { IfOk result (λ t. t ≡ adjust images vsn.0 (λ i. record i { known = known_with_write place bytes.now i.known })) }
 {
     let Some(image) = images.remove(&vsn.0) else {
         return Ok(images);
@@ -228,7 +228,7 @@ fn image_forgotten(
     place: u64,
     count: usize,
 ) -> Result<Texts<Image>, NoMemory>
-    ensures { IfOk result (λ t. t ≡ adjust images vsn.0 (λ i. record i { known = forgotten place count i.known })) }
+    ensures { IfOk result (λ t. t ≡ adjust images vsn.0 (λ i. record i { known = known_without_range place count i.known })) }
 {
     let Some(image) = images.remove(&vsn.0) else {
         return Ok(images);
@@ -239,14 +239,14 @@ fn image_forgotten(
 }
 
 fn known_written(mut image: Image, place: u64, bytes: &[u8]) -> Result<Image, NoMemory>
-    ensures { IfOk result (λ i. i ≡ record image { known = written place bytes.now image.known }) }
+    ensures { IfOk result (λ i. i ≡ record image { known = known_with_write place bytes.now image.known }) }
 {
     image.known = with_bytes(image.known, place, bytes)?;
     Ok(image)
 }
 
 fn known_forgotten(mut image: Image, place: u64, count: usize) -> Image
-    ensures { result ≡ record image { known = forgotten place count image.known } }
+    ensures { result ≡ record image { known = known_without_range place count image.known } }
 {
     image.known = without_range(image.known, place, count);
     image
@@ -254,7 +254,7 @@ fn known_forgotten(mut image: Image, place: u64, count: usize) -> Image
 
 // The known bytes with these from the place on.
 fn with_bytes(mut known: Numbers<u8>, place: u64, bytes: &[u8]) -> Result<Numbers<u8>, NoMemory>
-    ensures { IfOk result (λ k. k ≡ written place bytes.now known) }
+    ensures { IfOk result (λ k. k ≡ known_with_write place bytes.now known) }
 {
     let mut left = bytes.len();
     while left > 0 {
@@ -266,7 +266,7 @@ fn with_bytes(mut known: Numbers<u8>, place: u64, bytes: &[u8]) -> Result<Number
 
 // The known bytes without those of a range.
 fn without_range(mut known: Numbers<u8>, place: u64, count: usize) -> Numbers<u8>
-    ensures { result ≡ forgotten place count known }
+    ensures { result ≡ known_without_range place count known }
 {
     for offset in 0..count {
         let _ = known.remove(u128::from(place) + offset as u128);

@@ -2,7 +2,7 @@
 
 ghost use Rattle.std.specs.Prelude.{◌≡◌, IfOk};
 ghost use Rattle.std.specs.FinMap as map;
-ghost use Rattle.dm_rules.specs.Numbers.{narrowed};
+ghost use Rattle.dm_rules.specs.Numbers.{as_word};
 ghost use Rattle.dm_parts.specs.FirstVersion.{zone_end as zone_end_of};
 ghost use Rattle.dm_rules.specs.Zone.{chunk_count as chunk_count_of};
 ghost use Rattle.dm_rules.specs.Version.{first_version};
@@ -201,7 +201,7 @@ fn tips_moved(
 
 // The place behind the zone of a piece.
 fn zone_end(chunk: u64, piece: &Piece) -> u64
-    ensures { result ≡ narrowed (zone_end_of first_version chunk piece.now) }
+    ensures { result ≡ as_word (zone_end_of first_version chunk piece.now) }
 {
     let count = chunk_count(chunk, piece.len);
     let end = u128::from(piece.zone)

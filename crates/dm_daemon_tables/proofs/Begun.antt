@@ -10,13 +10,13 @@ use Rattle.dm_durable.specs.Tables.{Numbered}
 use Rattle.dm_durable.specs.Inodes.{as_making, bytes_online, bitfile_of, bitfile_in, with_contents}
 use Rattle.dm_durable.specs.Entries.{new_entry, after_letting_go_if}
 use Rattle.dm_durable.specs.Daemon.{after_begin_put}
-use Rattle.dm_rules.specs.Numbers.{narrowed}
+use Rattle.dm_rules.specs.Numbers.{as_word}
 use Rattle.dm_tables.specs.Rows.{adjust}
 use Rattle.dm_tables.proofs.Adjusted.{adjust-there}
 
 pub begun : (t : DaemonTables) (b : Bfid) (groups : List GroupId) (n : ℕ) (i : Inode) (counter key : ℕ) (inodes : Numbered Inode) (left entries : Numbered Entry) (named : Option ℕ) (entry : Entry)
     → Some i ≡ get t.inodes n
-    → counter ≡ narrowed (t.counter + 1)
+    → counter ≡ as_word (t.counter + 1)
     → inodes ≡ adjust t.inodes n (with_contents (as_making b))
     → named ≡ bitfile_of i.contents
     → left ≡ after_letting_go_if t.entries inodes t.time.0 named
@@ -34,7 +34,7 @@ begun t b groups n i counter key inodes left entries named entry there counts fo
     (λ j. record t { counter = counts j; inodes = made j; entries = all j })
     ∙ ap (after_begin_put t b groups n) there
 
-pub narrow_min : (n : ℕ) → min n 18446744073709551615 ≡ narrowed n
+pub narrow_min : (n : ℕ) → min n 18446744073709551615 ≡ as_word n
 narrow_min n = omega arith
 
 abbrev pub with_length : ℕ → Entry → Entry

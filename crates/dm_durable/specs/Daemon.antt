@@ -1,5 +1,5 @@
 -- What a record does to the daemon's tables.
-use Rattle.std.specs.Prelude.{ℕ, ◌+◌, ◌*◌, ◌^◌, Bool, false, cond, not, ◌&&◌, Option, None, Some, List, length, nat_eq}
+use Rattle.std.specs.Prelude.{ℕ, ◌+◌, Bool, false, cond, not, ◌&&◌, Option, None, Some, List, length, nat_eq}
 use Rattle.std.specs.List.{list_any}
 use Rattle.std.specs.FinMap as map
 use Rattle.dm_base.specs.declared.identifier.Bfid.{Bfid}
@@ -16,15 +16,12 @@ use Rattle.dm_durable.specs.declared.daemon.DaemonStep.TheVariants.{Write, Remov
 use Rattle.dm_durable.specs.declared.daemon.DaemonRecord.{DaemonRecord}
 use Rattle.dm_tables.specs.Rows.{adjust, map_values}
 use Rattle.dm_tables.specs.Totals.{total}
-use Rattle.dm_rules.specs.Numbers.{narrowed}
+use Rattle.dm_rules.specs.Numbers.{as_word}
+pub use Rattle.dm_rules.specs.Numbers.{bfid_of}
 use Rattle.dm_durable.specs.Tables.{Numbered, Named}
 use Rattle.dm_durable.specs.Inodes.{bitfile_in, bytes_online, length_of, has_making, is_made, is_named, as_making, as_ended, as_offline, as_recalled, with_contents}
 use Rattle.dm_durable.specs.Entries.{after_letting_go, after_letting_go_if, new_entry, with_copy_of, with_deletion_time, without_deletion_time, as_dropping}
 use Rattle.dm_durable.specs.Dumps.{new_dump, with_least, file_in, bitfile_dumped, as_restored, dump_size}
-
--- a bitfile's identifier: the site in the upper 64 bits, the counter in the lower 64
-abbrev pub bfid_of : ℕ → ℕ → ℕ
-bfid_of site counter = site * 2 ^ 64 + counter
 
 -- the bytes of all files, online or not, and those that are kept in dumps
 abbrev pub size_of_files : Numbered Inode → ℕ
@@ -76,7 +73,7 @@ after_begin_put t b groups n None = t
 after_begin_put t b groups n (Some i) =
     let inodes = map.insert t.inodes n (with_contents (as_making b) i) in
     record t {
-      counter = narrowed (t.counter + 1);
+      counter = as_word (t.counter + 1);
       inodes = inodes;
       entries = map.insert (after_letting_go_if t.entries inodes t.time.0 (bitfile_in (Some i))) b.0 (new_entry (length (bytes_online i.contents)) groups);
     }

@@ -5,6 +5,7 @@ use Rattle.std.specs.List.{AllByRecursion}
 use Rattle.dm_base.specs.declared.identifier.Secs.{Secs}
 use Rattle.dm_base.specs.declared.volume.Chunk.{Chunk}
 use Rattle.dm_base.specs.Naming.{IsPath, IsDumpName, IsSerial}
+use Rattle.dm_rules.specs.Numbers.{count_limit}
 use Rattle.dm_rules.specs.Version.{first_version}
 use Rattle.dm_durable.specs.declared.daemon.AskedCopy.{AskedCopy}
 use Rattle.dm_durable.specs.declared.daemon.Contents.{Contents}
@@ -40,7 +41,7 @@ IsIdentifier n = n < 2 ^ 128
 
 -- a number of things, or of bytes, which is spelled in 32 bits
 abbrev pub IsCount : ℕ → Type 0
-IsCount n = n < 2 ^ 32
+IsCount n = n < count_limit
 
 abbrev pub IsTimeOrNone : Option Secs → Type 0
 IsTimeOrNone None = Unit {0}

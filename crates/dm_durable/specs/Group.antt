@@ -12,7 +12,7 @@ use Rattle.dm_durable.specs.declared.group.GroupStep.TheVariants.{Volume, Commit
 use Rattle.dm_durable.specs.declared.group.GroupRecord.{GroupRecord}
 use Rattle.dm_tables.specs.Rows.{adjust, any}
 use Rattle.dm_rules.specs.Label.{first_zone}
-use Rattle.dm_rules.specs.Numbers.{greater, narrowed}
+use Rattle.dm_rules.specs.Numbers.{greater, as_word}
 use Rattle.dm_durable.specs.Tables.{Named, Numbered, same_text}
 
 -- ---- volumes
@@ -24,7 +24,7 @@ new_volume slot version size =
 
 -- the volume is written up to behind the chunk at least
 abbrev pub with_end_behind : Chunk → VolumeRow → VolumeRow
-with_end_behind c v = record v { end = greater v.end (narrowed (c.place + c.len)) }
+with_end_behind c v = record v { end = greater v.end (as_word (c.place + c.len)) }
 
 -- each chunk raises the end of its volume, where that is lower
 unfoldable pub with_ends_behind : List Chunk → Named VolumeRow → Named VolumeRow

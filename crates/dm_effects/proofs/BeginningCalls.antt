@@ -33,11 +33,11 @@ use Rattle.dm_model.specs.DaemonCalls.{begin_put, begin_put_needs, begin_recall,
 use Rattle.dm_model.specs.Effects.{after_ending, after_healing, after_mark, after_opening, after_payload, contents_with}
 use Rattle.dm_model.specs.Files.{File, asked_by, file_at, file_named, file_of, groups_of}
 use Rattle.dm_model.specs.Guards.{Guarded, AllHold}
-use Rattle.dm_model.specs.Plan.{Plan, Needs, guards_always, guards_of, if_accepted, nothing, prepared, refusal_of}
+use Rattle.dm_model.specs.Plan.{Plan, Needs, guards_always, guards_of, if_accepted, no_needs, prepared_plan, refusal_of}
 use Rattle.dm_model.specs.Step.{after_call}
 use Rattle.dm_invariant.specs.Doubts.{NoPutOf}
 use Rattle.dm_invariant.specs.Files.{FilesKept, NamedWhole, HeldRightly}
-use Rattle.dm_invariant.specs.Kept.{Kept}
+use Rattle.dm_invariant.specs.Kept.{InvariantHolds}
 use Rattle.dm_invariant.specs.Requests.{IsStoredAs, RequestsKept}
 use Rattle.dm_landing.proofs.CallFiles.{Found, found}
 use Rattle.dm_landing.proofs.CallRecalls.{ContentThere, named_content}
@@ -68,9 +68,9 @@ served_if w p o j =
     (after_payload (if_accepted o None p.payload) (after_healing p.heals p.component (after_ending w p.ends j)))
 
 -- a call keeps the invariant where what it makes does if it is accepted
-made_if : (j : Joint) (w : ℕ) (p : Plan) (n : Needs) (o : Option Answer) → Kept (served_if w p o j)
-    → (Kept (served_if w p None j) → AllHold (guards_always p n ++ p.making) → Kept (after_opening w p.opens (served_if w p None j)))
-    → AllHold (guards_of o p n) → Kept (after_opening w (if_accepted o opening.Nothing p.opens) (served_if w p o j))
+made_if : (j : Joint) (w : ℕ) (p : Plan) (n : Needs) (o : Option Answer) → InvariantHolds (served_if w p o j)
+    → (InvariantHolds (served_if w p None j) → AllHold (guards_always p n ++ p.making) → InvariantHolds (after_opening w p.opens (served_if w p None j)))
+    → AllHold (guards_of o p n) → InvariantHolds (after_opening w (if_accepted o opening.Nothing p.opens) (served_if w p o j))
 made_if j w p n None kept makes legal = makes kept legal
 made_if j w p n (Some a) kept makes legal = kept
 
@@ -81,7 +81,7 @@ always_hold p n (Some a) legal = legal
 -- ---- a put begins
 
 -- the bitfile of the next number has no put
-next_is_new : (j : Joint) → Kept j → NoPutOf j.daemon.requests (bfid_of j.daemon.tables.site j.daemon.tables.counter)
+next_is_new : (j : Joint) → InvariantHolds j → NoPutOf j.daemon.requests (bfid_of j.daemon.tables.site j.daemon.tables.counter)
 next_is_new j kept put =
     let t = j.daemon.tables in
     let entry = kept.requests.entry put.number put.request put.is in
@@ -137,11 +137,11 @@ request_opens j next k n i b groups new alone landed =
       alone = λ e. alone;
     }
 
-put_made : (j : Joint) → Kept j → (w : ℕ) (path : List ℕ) (asked : List (Option GroupId)) (now k : ℕ) (f : File) → Found j path f
-    → Kept (served_if w (begin_put j.daemon path asked now k (Some f)) None j)
+put_made : (j : Joint) → InvariantHolds j → (w : ℕ) (path : List ℕ) (asked : List (Option GroupId)) (now k : ℕ) (f : File) → Found j path f
+    → InvariantHolds (served_if w (begin_put j.daemon path asked now k (Some f)) None j)
     → AllHold (guards_always (begin_put j.daemon path asked now k (Some f)) (begin_put_needs j.sides asked)
     ++ (begin_put j.daemon path asked now k (Some f)).making)
-    → Kept (after_opening w (begin_put j.daemon path asked now k (Some f)).opens (served_if w (begin_put j.daemon path asked now k (Some f)) None j))
+    → InvariantHolds (after_opening w (begin_put j.daemon path asked now k (Some f)).opens (served_if w (begin_put j.daemon path asked now k (Some f)) None j))
 unfolding request_opens
 put_made j kept w path asked now k f at kept_served legal =
     let t = j.daemon.tables in
@@ -152,27 +152,27 @@ put_made j kept w path asked now k f at kept_served legal =
     let after = after_payload (Some (payload.Daemon r)) (with_daemon_doubt None j) in
     let len = length (bytes_online f.inode.contents) in
     let opens = request_opens after j.daemon.next_request k f.number f.inode b groups (leb-true _ _ legal.1.1.0) (next_is_new j kept) (put_landed j path groups b time f at) in
-    subst (λ gs. Kept (after_opening w (opening.Put k (new_request f.number f.inode b) len gs) after)) (new_asked len groups)
+    subst (λ gs. InvariantHolds (after_opening w (opening.Put k (new_request f.number f.inode b) len gs) after)) (new_asked len groups)
     (put_opened after kept_served refl w k (new_request f.number f.inode b) len refl opens refl)
 
-begin_put_if : (j : Joint) → Kept j → (w : ℕ) (path : List ℕ) (asked : List (Option GroupId)) (now k : ℕ) (o : Option File) → file_at j.daemon path ≡ o
-    → Kept (served w (prepared (begin_put j.daemon path asked now k o)) j)
+begin_put_if : (j : Joint) → InvariantHolds j → (w : ℕ) (path : List ℕ) (asked : List (Option GroupId)) (now k : ℕ) (o : Option File) → file_at j.daemon path ≡ o
+    → InvariantHolds (served w (prepared_plan (begin_put j.daemon path asked now k o)) j)
     → AllHold (guards_of (refusal_of (begin_put j.daemon path asked now k o)) (begin_put j.daemon path asked now k o) (begin_put_needs j.sides asked))
-    → Kept (after_call w (prepared (begin_put j.daemon path asked now k o)) j)
+    → InvariantHolds (after_call w (prepared_plan (begin_put j.daemon path asked now k o)) j)
 begin_put_if j kept w path asked now k None at served legal = served
 begin_put_if j kept w path asked now k (Some f) at served legal =
     let p = begin_put j.daemon path asked now k (Some f) in
     made_if j w p (begin_put_needs j.sides asked) (refusal_of p) served (put_made j kept w path asked now k f (found j path f at)) legal
 
-pub put_unspent : (j : Joint) → Kept j → (w : ℕ) (path : List ℕ) (asked : List (Option GroupId)) (now k : ℕ) (o : Option File)
-    → Kept (after_ending w (begin_put j.daemon path asked now k o).ends j)
+pub put_unspent : (j : Joint) → InvariantHolds j → (w : ℕ) (path : List ℕ) (asked : List (Option GroupId)) (now k : ℕ) (o : Option File)
+    → InvariantHolds (after_ending w (begin_put j.daemon path asked now k o).ends j)
 put_unspent j kept w path asked now k None = kept
 put_unspent j kept w path asked now k (Some f) = kept
 
-pub begin_put_keeps : (j : Joint) → Kept j → (w : ℕ) (path : List ℕ) (asked : List (Option GroupId)) (now : Secs) (k : ℕ)
+pub begin_put_keeps : (j : Joint) → InvariantHolds j → (w : ℕ) (path : List ℕ) (asked : List (Option GroupId)) (now : Secs) (k : ℕ)
     → AllHold (guards_of (refusal_of (daemon_plan j.daemon (call.BeginPut path asked now k))) (daemon_plan j.daemon (call.BeginPut path asked now k))
     (daemon_needs j.sides (map.get j.workers w) j.history j.daemon (call.BeginPut path asked now k)))
-    → Kept (after_call w (prepared (daemon_plan j.daemon (call.BeginPut path asked now k))) j)
+    → InvariantHolds (after_call w (prepared_plan (daemon_plan j.daemon (call.BeginPut path asked now k))) j)
 begin_put_keeps j kept w path asked now k legal =
     let c = call.BeginPut path asked now k in
     let p = daemon_plan j.daemon c in
@@ -183,7 +183,7 @@ begin_put_keeps j kept w path asked now k legal =
 -- ---- a recall begins
 
 -- the file is away, and so its inode names the bitfile rightly
-away_named : (j : Joint) (path : List ℕ) (f : File) (len : ℕ) (b : Bfid) → Kept j → Found j path f → f.inode.contents ≡ Offline len b
+away_named : (j : Joint) (path : List ℕ) (f : File) (len : ℕ) (b : Bfid) → InvariantHolds j → Found j path f → f.inode.contents ≡ Offline len b
     → NamedWhole j.daemon.tables.entries b.0 len
 away_named j path f len b kept at form = subst (HeldRightly j.daemon.tables.entries j.history.contents) form (kept.files.held at.n.0 f.inode at.is)
 
@@ -191,10 +191,10 @@ away_named j path f len b kept at form = subst (HeldRightly j.daemon.tables.entr
 abbrev recall_request : ℕ → Inode → Bfid → OpenRequest
 recall_request n i b = record { ino = record { 0 = n }; bfid = b; was = i.change; found = None; kind = kind.Recall }
 
-recall_made : (j : Joint) → Kept j → (w k : ℕ) (path : List ℕ) (f : File) (len : ℕ) (b : Bfid) → Found j path f → f.inode.contents ≡ Offline len b
-    → Kept (served_if w (recall_of_away j.daemon k f len b) None j)
-    → AllHold (guards_always (recall_of_away j.daemon k f len b) nothing ++ (recall_of_away j.daemon k f len b).making)
-    → Kept (after_opening w (recall_of_away j.daemon k f len b).opens (served_if w (recall_of_away j.daemon k f len b) None j))
+recall_made : (j : Joint) → InvariantHolds j → (w k : ℕ) (path : List ℕ) (f : File) (len : ℕ) (b : Bfid) → Found j path f → f.inode.contents ≡ Offline len b
+    → InvariantHolds (served_if w (recall_of_away j.daemon k f len b) None j)
+    → AllHold (guards_always (recall_of_away j.daemon k f len b) no_needs ++ (recall_of_away j.daemon k f len b).making)
+    → InvariantHolds (after_opening w (recall_of_away j.daemon k f len b).opens (served_if w (recall_of_away j.daemon k f len b) None j))
 recall_made j kept w k path f len b at form served legal =
     let t = j.daemon.tables in
     let named = away_named j path f len b kept at form in
@@ -230,39 +230,39 @@ recall_made j kept w k path f len b at form served legal =
     recall_opened (with_daemon_doubt None j) served refl w k r
     (record { bfid = b; len = len; asked = asked_by (map.get t.entries b.0); reads = map.empty }) opens recalls
 
-begin_recall_of_if : (j : Joint) → Kept j → (w k : ℕ) (path : List ℕ) (f : File) (c : Contents) → Found j path f → f.inode.contents ≡ c
-    → Kept (served w (prepared (begin_recall_of j.daemon k f c)) j)
-    → AllHold (guards_of (refusal_of (begin_recall_of j.daemon k f c)) (begin_recall_of j.daemon k f c) nothing)
-    → Kept (after_call w (prepared (begin_recall_of j.daemon k f c)) j)
+begin_recall_of_if : (j : Joint) → InvariantHolds j → (w k : ℕ) (path : List ℕ) (f : File) (c : Contents) → Found j path f → f.inode.contents ≡ c
+    → InvariantHolds (served w (prepared_plan (begin_recall_of j.daemon k f c)) j)
+    → AllHold (guards_of (refusal_of (begin_recall_of j.daemon k f c)) (begin_recall_of j.daemon k f c) no_needs)
+    → InvariantHolds (after_call w (prepared_plan (begin_recall_of j.daemon k f c)) j)
 begin_recall_of_if j kept w k path f (Regular bytes) at form served legal = served
 begin_recall_of_if j kept w k path f (Making bytes b) at form served legal = served
 begin_recall_of_if j kept w k path f (Dual bytes b) at form served legal = served
 begin_recall_of_if j kept w k path f (Offline len b) at form served legal = recall_made j kept w k path f len b at form served legal
 
-begin_recall_if : (j : Joint) → Kept j → (w k : ℕ) (path : List ℕ) (o : Option File) → file_at j.daemon path ≡ o
-    → Kept (served w (prepared (begin_recall j.daemon k o)) j)
-    → AllHold (guards_of (refusal_of (begin_recall j.daemon k o)) (begin_recall j.daemon k o) nothing)
-    → Kept (after_call w (prepared (begin_recall j.daemon k o)) j)
+begin_recall_if : (j : Joint) → InvariantHolds j → (w k : ℕ) (path : List ℕ) (o : Option File) → file_at j.daemon path ≡ o
+    → InvariantHolds (served w (prepared_plan (begin_recall j.daemon k o)) j)
+    → AllHold (guards_of (refusal_of (begin_recall j.daemon k o)) (begin_recall j.daemon k o) no_needs)
+    → InvariantHolds (after_call w (prepared_plan (begin_recall j.daemon k o)) j)
 begin_recall_if j kept w k path None at served legal = served
 begin_recall_if j kept w k path (Some f) at served legal = begin_recall_of_if j kept w k path f f.inode.contents (found j path f at) refl served legal
 
-recall_unspent_of : (j : Joint) → Kept j → (w k : ℕ) (f : File) (c : Contents) → Kept (after_ending w (begin_recall_of j.daemon k f c).ends j)
+recall_unspent_of : (j : Joint) → InvariantHolds j → (w k : ℕ) (f : File) (c : Contents) → InvariantHolds (after_ending w (begin_recall_of j.daemon k f c).ends j)
 recall_unspent_of j kept w k f (Regular bytes) = kept
 recall_unspent_of j kept w k f (Making bytes b) = kept
 recall_unspent_of j kept w k f (Dual bytes b) = kept
 recall_unspent_of j kept w k f (Offline len b) = kept
 
-pub recall_unspent : (j : Joint) → Kept j → (w k : ℕ) (o : Option File) → Kept (after_ending w (begin_recall j.daemon k o).ends j)
+pub recall_unspent : (j : Joint) → InvariantHolds j → (w k : ℕ) (o : Option File) → InvariantHolds (after_ending w (begin_recall j.daemon k o).ends j)
 recall_unspent j kept w k None = kept
 recall_unspent j kept w k (Some f) = recall_unspent_of j kept w k f f.inode.contents
 
-pub begin_recall_keeps : (j : Joint) → Kept j → (w : ℕ) (path : List ℕ) (k : ℕ)
+pub begin_recall_keeps : (j : Joint) → InvariantHolds j → (w : ℕ) (path : List ℕ) (k : ℕ)
     → AllHold (guards_of (refusal_of (daemon_plan j.daemon (call.BeginRecall path k))) (daemon_plan j.daemon (call.BeginRecall path k))
     (daemon_needs j.sides (map.get j.workers w) j.history j.daemon (call.BeginRecall path k)))
-    → Kept (after_call w (prepared (daemon_plan j.daemon (call.BeginRecall path k))) j)
+    → InvariantHolds (after_call w (prepared_plan (daemon_plan j.daemon (call.BeginRecall path k))) j)
 begin_recall_keeps j kept w path k legal =
     let c = call.BeginRecall path k in
     let p = daemon_plan j.daemon c in
-    let always = always_hold p nothing (refusal_of p) legal in
+    let always = always_hold p no_needs (refusal_of p) legal in
     begin_recall_if j kept w k path (file_at j.daemon path) refl
     (daemon_call_served j kept w c always (recall_unspent j kept w k (file_at j.daemon path))) legal

@@ -29,13 +29,13 @@ use Rattle.dm_model.specs.declared.state.Joint.{Joint}
 use Rattle.dm_model.specs.declared.state.OpenRequest.{OpenRequest}
 use Rattle.dm_model.specs.DaemonCalls.{attributes, begin_put, begin_recall, begin_recall_of, copy_stored, daemon_needs, daemon_plan, dropped, drop_recall}
 use Rattle.dm_model.specs.DaemonCalls.{end_put, end_recall, hard_delete_of, patch, release, remove, restore, restore_file, taken_at, time_at}
-use Rattle.dm_model.specs.Effects.{after_ending, after_failed_mark, after_healing, after_mark, after_opening, after_payload, doubting}
+use Rattle.dm_model.specs.Effects.{after_ending, after_failed_mark, after_healing, after_mark, after_opening, after_payload, joint_with_doubt}
 use Rattle.dm_model.specs.Files.{File, file_at}
 use Rattle.dm_model.specs.Guards.{AllHold}
-use Rattle.dm_model.specs.Plan.{Plan, guards_always, if_accepted, prepared, refusal_of}
+use Rattle.dm_model.specs.Plan.{Plan, guards_always, if_accepted, prepared_plan, refusal_of}
 use Rattle.dm_model.specs.Step.{after_call, after_fault}
 use Rattle.dm_invariant.specs.Doubts.{MayLandIf}
-use Rattle.dm_invariant.specs.Kept.{Kept}
+use Rattle.dm_invariant.specs.Kept.{InvariantHolds}
 use Rattle.dm_landing.proofs.CallsLanded.{PayloadLands, daemon_call_lands}
 use Rattle.dm_landing.proofs.DaemonLanded.{daemon_record_landed}
 
@@ -46,8 +46,8 @@ abbrev pub with_daemon_doubt : Option DaemonRecord → Joint → Joint
 with_daemon_doubt o j = record j { daemon = record j.daemon { doubt = o } }
 
 -- it is kept where that step may land
-pub doubt_keeps : (j : Joint) → Kept j → (o : Option DaemonRecord)
-    → MayLandIf j.daemon.tables j.daemon.requests j.history.contents j.daemon.cap j.sides o → Kept (with_daemon_doubt o j)
+pub doubt_keeps : (j : Joint) → InvariantHolds j → (o : Option DaemonRecord)
+    → MayLandIf j.daemon.tables j.daemon.requests j.history.contents j.daemon.cap j.sides o → InvariantHolds (with_daemon_doubt o j)
 doubt_keeps j kept o lands = record {
   files = kept.files;
   dumps = kept.dumps;
@@ -60,8 +60,8 @@ doubt_keeps j kept o lands = record {
 }
 
 -- a step in doubt that landed did what it would have done
-pub doubt_landed : (j : Joint) → Kept j → (r : DaemonRecord) → j.daemon.doubt ≡ Some r
-    → Kept (after_payload (Some (payload.Daemon r)) (with_daemon_doubt None j))
+pub doubt_landed : (j : Joint) → InvariantHolds j → (r : DaemonRecord) → j.daemon.doubt ≡ Some r
+    → InvariantHolds (after_payload (Some (payload.Daemon r)) (with_daemon_doubt None j))
 doubt_landed j kept r is =
     let may = subst (MayLandIf j.daemon.tables j.daemon.requests j.history.contents j.daemon.cap j.sides) is kept.doubt in
     daemon_record_landed (with_daemon_doubt None j) r (doubt_keeps j kept None tt) may refl
@@ -69,13 +69,13 @@ doubt_landed j kept r is =
 -- ---- payloads
 
 -- a payload that may land keeps the invariant once nothing is in doubt
-payload_keeps : (j : Joint) → Kept j → (p : Option Payload) → PayloadLands j p → Kept (after_payload p (with_daemon_doubt None j))
+payload_keeps : (j : Joint) → InvariantHolds j → (p : Option Payload) → PayloadLands j p → InvariantHolds (after_payload p (with_daemon_doubt None j))
 payload_keeps j kept None lands = doubt_keeps j kept None tt
 payload_keeps j kept (Some (payload.Daemon r)) lands = daemon_record_landed (with_daemon_doubt None j) r (doubt_keeps j kept None tt) lands refl
 payload_keeps j kept (Some (payload.Group g r)) lands = absurd lands
 
 -- and so it does in doubt
-payload_doubted : (j : Joint) → Kept j → (far : Bool) (p : Option Payload) → PayloadLands j p → Kept (doubting (cond far p None) j)
+payload_doubted : (j : Joint) → InvariantHolds j → (far : Bool) (p : Option Payload) → PayloadLands j p → InvariantHolds (joint_with_doubt (cond far p None) j)
 payload_doubted j kept false p lands = kept
 payload_doubted j kept true None lands = kept
 payload_doubted j kept true (Some (payload.Daemon r)) lands = doubt_keeps j kept (Some r) lands
@@ -196,57 +196,57 @@ module _ (d : Daemon) where
 abbrev pub served : ℕ → Prepared → Joint → Joint
 served w q j = after_mark w q.mark (after_payload q.payload (after_healing q.heals q.component (after_ending w q.ends j)))
 
-healed_keeps : (j : Joint) → Kept j → (heals : Bool) → Kept (after_healing heals component.Daemon j)
+healed_keeps : (j : Joint) → InvariantHolds j → (heals : Bool) → InvariantHolds (after_healing heals component.Daemon j)
 healed_keeps j kept true = doubt_keeps j kept None tt
 healed_keeps j kept false = kept
 
-paid_keeps : (j : Joint) → Kept j → (heals : Bool) (p : Option Payload) → ((heals ≡ true) ⊎ (p ≡ None)) → PayloadLands j p
-    → Kept (after_payload p (after_healing heals component.Daemon j))
+paid_keeps : (j : Joint) → InvariantHolds j → (heals : Bool) (p : Option Payload) → ((heals ≡ true) ⊎ (p ≡ None)) → PayloadLands j p
+    → InvariantHolds (after_payload p (after_healing heals component.Daemon j))
 paid_keeps j kept heals p (inl e) lands =
-    subst (λ h. Kept (after_payload p (after_healing h component.Daemon j))) (sym e) (payload_keeps j kept p lands)
+    subst (λ h. InvariantHolds (after_payload p (after_healing h component.Daemon j))) (sym e) (payload_keeps j kept p lands)
 paid_keeps j kept heals p (inr e) lands =
-    subst (λ q. Kept (after_payload q (after_healing heals component.Daemon j))) (sym e) (healed_keeps j kept heals)
+    subst (λ q. InvariantHolds (after_payload q (after_healing heals component.Daemon j))) (sym e) (healed_keeps j kept heals)
 
-served_keeps : (j : Joint) (w : ℕ) (q : Prepared) → OfDaemon q.component q.heals q.payload q.mark → Kept (after_ending w q.ends j)
-    → PayloadLands (after_ending w q.ends j) q.payload → Kept (served w q j)
+served_keeps : (j : Joint) (w : ℕ) (q : Prepared) → OfDaemon q.component q.heals q.payload q.mark → InvariantHolds (after_ending w q.ends j)
+    → PayloadLands (after_ending w q.ends j) q.payload → InvariantHolds (served w q j)
 served_keeps j w q of kept lands =
     let ended = after_ending w q.ends j in
-    let paid = subst (λ c. Kept (after_payload q.payload (after_healing q.heals c ended))) (sym of.daemon)
+    let paid = subst (λ c. InvariantHolds (after_payload q.payload (after_healing q.heals c ended))) (sym of.daemon)
     (paid_keeps ended kept q.heals q.payload of.healed lands) in
-    subst (λ m. Kept (after_mark w m (after_payload q.payload (after_healing q.heals q.component ended)))) (sym of.unmarked) paid
+    subst (λ m. InvariantHolds (after_mark w m (after_payload q.payload (after_healing q.heals q.component ended)))) (sym of.unmarked) paid
 
-faulted_keeps : (j : Joint) (w : ℕ) (q : Prepared) (far : Bool) → OfDaemon q.component q.heals q.payload q.mark → Kept (after_ending w q.ends j)
-    → PayloadLands (after_ending w q.ends j) q.payload → Kept (after_fault w q far j)
+faulted_keeps : (j : Joint) (w : ℕ) (q : Prepared) (far : Bool) → OfDaemon q.component q.heals q.payload q.mark → InvariantHolds (after_ending w q.ends j)
+    → PayloadLands (after_ending w q.ends j) q.payload → InvariantHolds (after_fault w q far j)
 faulted_keeps j w q far of kept lands =
     let ended = after_ending w q.ends j in
-    subst (λ m. Kept (doubting (cond far q.payload None) (after_failed_mark m ended))) (sym of.unmarked)
+    subst (λ m. InvariantHolds (joint_with_doubt (cond far q.payload None) (after_failed_mark m ended))) (sym of.unmarked)
     (payload_doubted ended kept far q.payload lands)
 
-module _ (j : Joint) (kept : Kept j) (w : ℕ) (c : DaemonCall)
+module _ (j : Joint) (kept : InvariantHolds j) (w : ℕ) (c : DaemonCall)
     (legal : AllHold (guards_always (daemon_plan j.daemon c) (daemon_needs j.sides (map.get j.workers w) j.history j.daemon c)))
-    (ended : Kept (after_ending w (daemon_plan j.daemon c).ends j)) where
+    (ended : InvariantHolds (after_ending w (daemon_plan j.daemon c).ends j)) where
   abbrev p : Plan
   p = daemon_plan j.daemon c
 
   -- a legal call keeps the invariant until it makes something
-  pub daemon_call_served : Kept (served w (prepared p) j)
-  daemon_call_served = served_keeps j w (prepared p) (prepared_of p (plan_of_daemon j.daemon c) (refusal_of p)) ended (daemon_call_lands j kept w c legal)
+  pub daemon_call_served : InvariantHolds (served w (prepared_plan p) j)
+  daemon_call_served = served_keeps j w (prepared_plan p) (prepared_of p (plan_of_daemon j.daemon c) (refusal_of p)) ended (daemon_call_lands j kept w c legal)
 
   -- and so does one that fails
-  pub daemon_fault_keeps : (far : Bool) → Kept (after_fault w (prepared p) far j)
-  daemon_fault_keeps far = faulted_keeps j w (prepared p) far (prepared_of p (plan_of_daemon j.daemon c) (refusal_of p)) ended (daemon_call_lands j kept w c legal)
+  pub daemon_fault_keeps : (far : Bool) → InvariantHolds (after_fault w (prepared_plan p) far j)
+  daemon_fault_keeps far = faulted_keeps j w (prepared_plan p) far (prepared_of p (plan_of_daemon j.daemon c) (refusal_of p)) ended (daemon_call_lands j kept w c legal)
 
 -- a call that opens nothing keeps it
-pub opens_nothing : (w : ℕ) (o : Option Answer) (x : Opening) (j : Joint) → x ≡ opening.Nothing → Kept j → Kept (after_opening w (if_accepted o opening.Nothing x) j)
-opens_nothing w None x j none kept = subst (λ y. Kept (after_opening w y j)) (sym none) kept
+pub opens_nothing : (w : ℕ) (o : Option Answer) (x : Opening) (j : Joint) → x ≡ opening.Nothing → InvariantHolds j → InvariantHolds (after_opening w (if_accepted o opening.Nothing x) j)
+opens_nothing w None x j none kept = subst (λ y. InvariantHolds (after_opening w y j)) (sym none) kept
 opens_nothing w (Some a) x j none kept = kept
 
 -- a legal call that spends and makes nothing keeps the invariant, answered or failed
-pub daemon_call_keeps : (j : Joint) → Kept j → (w : ℕ) (c : DaemonCall)
+pub daemon_call_keeps : (j : Joint) → InvariantHolds j → (w : ℕ) (c : DaemonCall)
     → AllHold (guards_always (daemon_plan j.daemon c) (daemon_needs j.sides (map.get j.workers w) j.history j.daemon c))
     → (daemon_plan j.daemon c).ends ≡ ending.Nothing → (daemon_plan j.daemon c).opens ≡ opening.Nothing
-    → Kept (after_call w (prepared (daemon_plan j.daemon c)) j)
+    → InvariantHolds (after_call w (prepared_plan (daemon_plan j.daemon c)) j)
 daemon_call_keeps j kept w c legal unspent unmade =
     let p = daemon_plan j.daemon c in
-    let ended = subst (λ e. Kept (after_ending w e j)) (sym unspent) kept in
-    opens_nothing w (refusal_of p) p.opens (served w (prepared p) j) unmade (daemon_call_served j kept w c legal ended)
+    let ended = subst (λ e. InvariantHolds (after_ending w e j)) (sym unspent) kept in
+    opens_nothing w (refusal_of p) p.opens (served w (prepared_plan p) j) unmade (daemon_call_served j kept w c legal ended)

@@ -17,9 +17,9 @@ use Rattle.dm_model.specs.DaemonCalls.{attributes, copy_stored, daemon_needs, da
 use Rattle.dm_model.specs.Effects.{after_ending}
 use Rattle.dm_model.specs.Files.{File, file_at}
 use Rattle.dm_model.specs.Guards.{AllHold}
-use Rattle.dm_model.specs.Plan.{Plan, guards_always, guards_of, prepared, refusal_of}
+use Rattle.dm_model.specs.Plan.{Plan, guards_always, guards_of, prepared_plan, refusal_of}
 use Rattle.dm_model.specs.Step.{after_call, after_fault}
-use Rattle.dm_invariant.specs.Kept.{Kept}
+use Rattle.dm_invariant.specs.Kept.{InvariantHolds}
 use Rattle.dm_effects.proofs.BeginningCalls.{always_hold, begin_put_keeps, begin_recall_keeps, put_unspent, recall_unspent}
 use Rattle.dm_effects.proofs.DaemonCalls.{daemon_call_keeps, daemon_fault_keeps}
 use Rattle.dm_effects.proofs.PutCalls.{end_put_keeps, end_ended as put_end_ended}
@@ -74,7 +74,7 @@ module _ (d : Daemon) where
 
 -- ---- all calls
 
-module _ (j : Joint) (kept : Kept j) (w : ℕ) where
+module _ (j : Joint) (kept : InvariantHolds j) (w : ℕ) where
   abbrev IsLegal : DaemonCall → Type 0
   IsLegal c =
       let p = daemon_plan j.daemon c in
@@ -88,11 +88,11 @@ module _ (j : Joint) (kept : Kept j) (w : ℕ) where
       let p = daemon_plan j.daemon c in
       always_hold p (daemon_needs j.sides (map.get j.workers w) j.history j.daemon c) (refusal_of p) legal
 
-  plainly : (c : DaemonCall) → IsLegal c → SpendsNothing (daemon_plan j.daemon c) → Kept (after_call w (prepared (daemon_plan j.daemon c)) j)
+  plainly : (c : DaemonCall) → IsLegal c → SpendsNothing (daemon_plan j.daemon c) → InvariantHolds (after_call w (prepared_plan (daemon_plan j.daemon c)) j)
   plainly c legal quiet = daemon_call_keeps j kept w c (always c legal) quiet.unspent quiet.unmade
 
   -- a call of the daemon whose guards hold keeps the invariant
-  pub daemon_kept : (c : DaemonCall) → IsLegal c → Kept (after_call w (prepared (daemon_plan j.daemon c)) j)
+  pub daemon_kept : (c : DaemonCall) → IsLegal c → InvariantHolds (after_call w (prepared_plan (daemon_plan j.daemon c)) j)
   daemon_kept (call.BeginPut path asked now k) legal = begin_put_keeps j kept w path asked now k legal
   daemon_kept (call.CopyStored k group now) legal = plainly (call.CopyStored k group now) legal (copy_is_stored j.daemon group now.0 (map.get j.daemon.requests k))
   daemon_kept (call.EndPut k now) legal = end_put_keeps j kept w k now (always (call.EndPut k now) legal)
@@ -115,11 +115,11 @@ module _ (j : Joint) (kept : Kept j) (w : ℕ) where
   daemon_kept (call.Attributes path) legal = plainly (call.Attributes path) legal (file_told j.daemon path (file_at j.daemon path))
   daemon_kept call.List legal = plainly call.List legal (none j.daemon (daemon_plan j.daemon call.List) refl refl)
 
-  spent_nothing : (c : DaemonCall) → SpendsNothing (daemon_plan j.daemon c) → Kept (after_ending w (daemon_plan j.daemon c).ends j)
-  spent_nothing c quiet = subst (λ e. Kept (after_ending w e j)) (sym quiet.unspent) kept
+  spent_nothing : (c : DaemonCall) → SpendsNothing (daemon_plan j.daemon c) → InvariantHolds (after_ending w (daemon_plan j.daemon c).ends j)
+  spent_nothing c quiet = subst (λ e. InvariantHolds (after_ending w e j)) (sym quiet.unspent) kept
 
   -- what a legal call spends keeps it
-  pub daemon_ended : (c : DaemonCall) → IsLegalFault c → Kept (after_ending w (daemon_plan j.daemon c).ends j)
+  pub daemon_ended : (c : DaemonCall) → IsLegalFault c → InvariantHolds (after_ending w (daemon_plan j.daemon c).ends j)
   daemon_ended (call.BeginPut path asked now k) legal = put_unspent j kept w path asked now.0 k (file_at j.daemon path)
   daemon_ended (call.CopyStored k group now) legal = spent_nothing (call.CopyStored k group now) (copy_is_stored j.daemon group now.0 (map.get j.daemon.requests k))
   daemon_ended (call.EndPut k now) legal = put_end_ended j kept w k now.0 (map.get j.daemon.requests k) refl legal
@@ -143,5 +143,5 @@ module _ (j : Joint) (kept : Kept j) (w : ℕ) where
   daemon_ended call.List legal = kept
 
   -- and one that fails keeps it, with its step in doubt or not
-  pub daemon_fault_kept : (c : DaemonCall) → IsLegalFault c → (far : Bool) → Kept (after_fault w (prepared (daemon_plan j.daemon c)) far j)
+  pub daemon_fault_kept : (c : DaemonCall) → IsLegalFault c → (far : Bool) → InvariantHolds (after_fault w (prepared_plan (daemon_plan j.daemon c)) far j)
   daemon_fault_kept c legal = daemon_fault_keeps j kept w c legal (daemon_ended c legal)

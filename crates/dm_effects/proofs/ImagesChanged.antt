@@ -6,7 +6,7 @@ use Rattle.dm_base.specs.declared.conf.GroupConf.{GroupConf}
 use Rattle.dm_base.specs.declared.serial.Vsn.{Vsn}
 use Rattle.dm_base.specs.declared.volume.Chunk.{Chunk}
 use Rattle.dm_base.specs.declared.volume.Piece.{Piece}
-use Rattle.dm_rules.specs.Known.{Known, written, forgotten, known_bytes}
+use Rattle.dm_rules.specs.Known.{Known, known_with_write, known_without_range, known_bytes}
 use Rattle.dm_rules.proofs.Knowledge.{inside, outside, lies, known_bytes-same, get-written_out, get-forgotten_out}
 use Rattle.dm_tables.specs.Rows.{EachRow, adjust}
 use Rattle.dm_tables.proofs.Orders.{numbers, paths, same_or}
@@ -34,7 +34,7 @@ use Rattle.dm_model.specs.declared.state.Side.{Side}
 use Rattle.dm_model.specs.declared.state.WrittenZone.{WrittenZone}
 use Rattle.dm_model.specs.GroupCalls.{piece_at}
 use Rattle.dm_model.specs.SideShare.{known_by}
-use Rattle.dm_invariant.specs.Among.{Among}
+use Rattle.dm_invariant.specs.Among.{IsAmong}
 use Rattle.dm_invariant.specs.Assemble.{ChunkKnown, known_of, known_on}
 use Rattle.dm_invariant.specs.Catalogue.{BitfileKept}
 use Rattle.dm_invariant.specs.Doubts.{GroupMayLandIf, GroupStepNeeds, IsUnused, PutNeeds}
@@ -73,14 +73,14 @@ image_changed f vsn place n images same = λ v q out.
 
 -- after a write
 pub image_written : (vsn : List ℕ) (place : ℕ) (bytes : List ℕ) (images : Named Image)
-    → KnownBeside vsn place (length bytes) images (adjust images vsn (known_by (written place bytes)))
+    → KnownBeside vsn place (length bytes) images (adjust images vsn (known_by (known_with_write place bytes)))
 image_written vsn place bytes images =
-    image_changed (written place bytes) vsn place (length bytes) images (λ k q out. get-written_out place bytes k q out)
+    image_changed (known_with_write place bytes) vsn place (length bytes) images (λ k q out. get-written_out place bytes k q out)
 
 -- and after one that failed
 pub image_forgotten : (vsn : List ℕ) (place n : ℕ) (images : Named Image)
-    → KnownBeside vsn place n images (adjust images vsn (known_by (forgotten place n)))
-image_forgotten vsn place n images = image_changed (forgotten place n) vsn place n images (λ k q out. get-forgotten_out place n k q out)
+    → KnownBeside vsn place n images (adjust images vsn (known_by (known_without_range place n)))
+image_forgotten vsn place n images = image_changed (known_without_range place n) vsn place n images (λ k q out. get-forgotten_out place n k q out)
 
 -- no place changed
 pub images_same : (vsn : List ℕ) (place n : ℕ) (images : Named Image) → KnownBeside vsn place n images images
@@ -206,7 +206,7 @@ module _ (conf : GroupConf) (volumes : Named VolumeRow) (reservations : Numbered
 
 module _ (vsn : List ℕ) (place n : ℕ) (old new : Named Image) (beside : KnownBeside vsn place n old new) where
   bitfile_beside : (g : ℕ) (entries : Numbered Entry) (contents : Numbered (List ℕ)) (volumes : Named VolumeRow) (b : ℕ) (row : BitfileRow)
-      → ((c : Chunk) → Among c row.chunks → Spares vsn place n c)
+      → ((c : Chunk) → IsAmong c row.chunks → Spares vsn place n c)
       → BitfileKept g entries contents volumes old b row → BitfileKept g entries contents volumes new b row
   bitfile_beside g entries contents volumes b row spares k = record {
     entry = k.entry;
@@ -290,7 +290,7 @@ module _ (vsn : List ℕ) (place n : ℕ) (s : Side) (images : Named Image) (cop
       record { configured = k.configured; sized = k.sized; unmounted = unmounted_like s.mounts mounts v.0 like k.unmounted }
   needs_beside g entries contents taken deleted now (Commit b len chunks) spares k = record {
     puts = puts_beside vsn place n s.images images beside g entries contents s.group.tables.volumes s.group.tips deleted b.0
-        (λ c. Among c chunks) spares k.puts;
+        (λ c. IsAmong c chunks) spares k.puts;
     whole = k.whole;
     unreserved = k.unreserved;
   }
@@ -313,7 +313,7 @@ module _ (vsn : List ℕ) (place n : ℕ) (s : Side) (images : Named Image) (cop
 
 -- no chunk has a place of the range
 pub record SparesChunks (contents : Numbered (List ℕ)) (s : Side) (vsn : List ℕ) (place n : ℕ) : Type 0 where
-  pub live : EachRow s.group.tables.bitfiles (λ b row. (c : Chunk) → Among c row.chunks → Spares vsn place n c)
+  pub live : EachRow s.group.tables.bitfiles (λ b row. (c : Chunk) → IsAmong c row.chunks → Spares vsn place n c)
   pub once : (v : VolumeRow) (b : ℕ) (c : Chunk) → StillThere contents s.images s.group.reservations s.group.moves v b c → Spares vsn place n c
   pub doubted : (c : Chunk) → IsDoubted c s.group.doubt → Spares vsn place n c
 
@@ -321,7 +321,7 @@ pub record SparesChunks (contents : Numbered (List ℕ)) (s : Side) (vsn : List 
 pub record MovesRight (contents : Numbered (List ℕ)) (moves : Numbered Moving) (images : Named Image) (mounts : Numbered MountState) : Type 0 where
   pub read : (job : ℕ) (x : Moving) (y : MountState) → map.get moves job ≡ Some x → map.get mounts x.source ≡ Some y
       → ReadRight contents x.bfid.0 x.from y.read
-  pub written : (job : ℕ) (x : Moving) (y : MountState) → map.get moves job ≡ Some x → map.get mounts x.target ≡ Some y
+  pub known_with_write : (job : ℕ) (x : Moving) (y : MountState) → map.get moves job ≡ Some x → map.get mounts x.target ≡ Some y
       → WrittenRight images x.version x.to y.written
 
 pub side_beside : (entries : Numbered Entry) (contents : Numbered (List ℕ)) (taken : Numbered (Unit {0})) (requests : Numbered OpenRequest)

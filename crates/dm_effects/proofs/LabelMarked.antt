@@ -4,7 +4,7 @@ use Rattle.std.specs.FinMap as map
 use Rattle.dm_base.specs.declared.identifier.GroupId.{GroupId}
 use Rattle.dm_base.specs.declared.serial.Vsn.{Vsn}
 use Rattle.dm_base.specs.declared.volume.Chunk.{Chunk}
-use Rattle.dm_rules.specs.Known.{forgotten, written}
+use Rattle.dm_rules.specs.Known.{known_without_range, known_with_write}
 use Rattle.dm_rules.specs.Label.{first_zone}
 use Rattle.dm_tables.specs.Rows.{adjust}
 use Rattle.dm_tables.proofs.Orders.{numbers}
@@ -125,7 +125,7 @@ pub side_labelled : (entries : Numbered Entry) (contents : Numbered (List ℕ)) 
     → SideKept entries contents taken requests g committed deleted (side_after_mark (mark.Label h vsn m epoch version text) s)
 side_labelled entries contents taken requests g committed deleted s h vsn m epoch version text long kept =
     label_changed entries contents taken requests g committed deleted s vsn.0 m (length text) (Some (record { epoch = epoch; version = version }))
-    (adjust s.images vsn.0 (known_by (written 0 text))) long (image_written vsn.0 0 text s.images) kept
+    (adjust s.images vsn.0 (known_by (known_with_write 0 text))) long (image_written vsn.0 0 text s.images) kept
 
 -- also where the write of the label fails
 pub side_label_failed : (entries : Numbered Entry) (contents : Numbered (List ℕ)) (taken : Numbered (Unit {0})) (requests : Numbered OpenRequest)
@@ -135,4 +135,4 @@ pub side_label_failed : (entries : Numbered Entry) (contents : Numbered (List �
     → SideKept entries contents taken requests g committed deleted (side_after_failed_mark (mark.Label h vsn m epoch version text) s)
 side_label_failed entries contents taken requests g committed deleted s h vsn m epoch version text long kept =
     label_changed entries contents taken requests g committed deleted s vsn.0 m (length text) None
-    (adjust s.images vsn.0 (known_by (forgotten 0 (length text)))) long (image_forgotten vsn.0 0 (length text) s.images) kept
+    (adjust s.images vsn.0 (known_by (known_without_range 0 (length text)))) long (image_forgotten vsn.0 0 (length text) s.images) kept

@@ -28,7 +28,7 @@ use Rattle.dm_model.specs.SideShare.{side_after_ending}
 use Rattle.dm_invariant.specs.Kept.{SideKept}
 use Rattle.dm_invariant.specs.Mounts.{OriginKept}
 use Rattle.dm_invariant.specs.OnceLive.{MountOnce, OnceLive}
-use Rattle.dm_invariant.specs.Places.{Has, HasTarget, Live, Kept, Target, Doubted, Owner}
+use Rattle.dm_invariant.specs.Places.{HasPlace, HasTarget, Live, Reserving, Target, Doubted, Owner}
 use Rattle.dm_invariant.proofs.Options.{same_row}
 use Rattle.dm_effects.proofs.MountEnded.{drives_left, move_left, reuse_left, same_mounts_left}
 use Rattle.dm_effects.proofs.Uses.{FewerUses, doubt_fewer, open_of}
@@ -50,9 +50,9 @@ target_left moves gone job vsn place has =
 
 has_left : (bitfiles : Numbered BitfileRow) (reservations : Numbered Reserved) (moves : Numbered Moving) (doubt : Option GroupRecord) (gone : ℕ)
     (o : Owner) (vsn : List ℕ) (place : ℕ)
-    → Has bitfiles reservations (map.remove moves gone) doubt o vsn place → Has bitfiles reservations moves doubt o vsn place
+    → HasPlace bitfiles reservations (map.remove moves gone) doubt o vsn place → HasPlace bitfiles reservations moves doubt o vsn place
 has_left bitfiles reservations moves doubt gone (Live b offset) vsn place has = has
-has_left bitfiles reservations moves doubt gone (Kept n offset) vsn place has = has
+has_left bitfiles reservations moves doubt gone (Reserving n offset) vsn place has = has
 has_left bitfiles reservations moves doubt gone (Target job) vsn place has = target_left moves gone job vsn place has
 has_left bitfiles reservations moves doubt gone (Doubted offset) vsn place has = has
 

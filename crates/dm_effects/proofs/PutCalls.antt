@@ -31,9 +31,9 @@ use Rattle.dm_model.specs.DaemonCalls.{daemon_needs, daemon_plan, end_put, end_p
 use Rattle.dm_model.specs.Effects.{after_ending}
 use Rattle.dm_model.specs.Files.{is_put}
 use Rattle.dm_model.specs.Guards.{AllHold}
-use Rattle.dm_model.specs.Plan.{guards_always, prepared, refusal_of}
+use Rattle.dm_model.specs.Plan.{guards_always, prepared_plan, refusal_of}
 use Rattle.dm_model.specs.Step.{after_call, after_fault}
-use Rattle.dm_invariant.specs.Kept.{Kept}
+use Rattle.dm_invariant.specs.Kept.{InvariantHolds}
 use Rattle.dm_invariant.proofs.Options.{no_value}
 use Rattle.dm_effects.proofs.CopyEnded.{IsUnreserved}
 use Rattle.dm_effects.proofs.DaemonCalls.{daemon_call_served, daemon_fault_keeps, opens_nothing, served}
@@ -46,9 +46,9 @@ unreserved sides b none = λ g s at c copy.
     let fails = any-false numbers (λ g s. has_reservation (map.get s.copies b)) sides none g s at in
     no_value c.reservation (ap has_reservation (sym copy) ∙ fails)
 
-pub end_ended : (j : Joint) → Kept j → (w k now : ℕ) (o : Option OpenRequest) → map.get j.daemon.requests k ≡ o
+pub end_ended : (j : Joint) → InvariantHolds j → (w k now : ℕ) (o : Option OpenRequest) → map.get j.daemon.requests k ≡ o
     → AllHold (guards_always (end_put j.daemon k now o) (end_put_needs j.sides o))
-    → Kept (after_ending w (end_put j.daemon k now o).ends j)
+    → InvariantHolds (after_ending w (end_put j.daemon k now o).ends j)
 end_ended j kept w k now None is legal = kept
 end_ended j kept w k now (Some r) is legal = put_ended j kept w k r is legal.0 (unreserved j.sides r.bfid.0 (not-true _ legal.1.0))
 
@@ -56,17 +56,17 @@ end_unmade : (j : Joint) (k now : ℕ) (o : Option OpenRequest) → (end_put j.d
 end_unmade j k now None = refl
 end_unmade j k now (Some r) = refl
 
-pub end_put_keeps : (j : Joint) → Kept j → (w k : ℕ) (now : Secs)
+pub end_put_keeps : (j : Joint) → InvariantHolds j → (w k : ℕ) (now : Secs)
     → AllHold (guards_always (daemon_plan j.daemon (call.EndPut k now)) (daemon_needs j.sides (map.get j.workers w) j.history j.daemon (call.EndPut k now)))
-    → Kept (after_call w (prepared (daemon_plan j.daemon (call.EndPut k now))) j)
+    → InvariantHolds (after_call w (prepared_plan (daemon_plan j.daemon (call.EndPut k now))) j)
 end_put_keeps j kept w k now legal =
     let p = daemon_plan j.daemon (call.EndPut k now) in
     let ended = end_ended j kept w k now.0 (map.get j.daemon.requests k) refl legal in
-    opens_nothing w (refusal_of p) p.opens (served w (prepared p) j) (end_unmade j k now.0 (map.get j.daemon.requests k))
+    opens_nothing w (refusal_of p) p.opens (served w (prepared_plan p) j) (end_unmade j k now.0 (map.get j.daemon.requests k))
     (daemon_call_served j kept w (call.EndPut k now) legal ended)
 
-pub end_put_fault_keeps : (j : Joint) → Kept j → (w k : ℕ) (now : Secs)
+pub end_put_fault_keeps : (j : Joint) → InvariantHolds j → (w k : ℕ) (now : Secs)
     → AllHold (guards_always (daemon_plan j.daemon (call.EndPut k now)) (daemon_needs j.sides (map.get j.workers w) j.history j.daemon (call.EndPut k now)))
-    → (far : Bool) → Kept (after_fault w (prepared (daemon_plan j.daemon (call.EndPut k now))) far j)
+    → (far : Bool) → InvariantHolds (after_fault w (prepared_plan (daemon_plan j.daemon (call.EndPut k now))) far j)
 end_put_fault_keeps j kept w k now legal =
     daemon_fault_keeps j kept w (call.EndPut k now) legal (end_ended j kept w k now.0 (map.get j.daemon.requests k) refl legal)

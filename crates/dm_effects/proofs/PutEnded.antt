@@ -22,7 +22,7 @@ use Rattle.dm_model.specs.Effects.{after_ending, at_each}
 use Rattle.dm_model.specs.Files.{asked_by, is_put}
 use Rattle.dm_model.specs.SideShare.{side_after_ending}
 use Rattle.dm_invariant.specs.Doubts.{DoubtPuts, StepNeeds, MayLandIf}
-use Rattle.dm_invariant.specs.Kept.{SideKept, committed_in, deleted_in, Kept}
+use Rattle.dm_invariant.specs.Kept.{SideKept, committed_in, deleted_in, InvariantHolds}
 use Rattle.dm_invariant.specs.Reservations.{PutOf}
 use Rattle.dm_invariant.proofs.AskedGroups.{NumberAmong, among_cons, asked_among}
 use Rattle.dm_invariant.proofs.Options.{has_value, none_some, value_of}
@@ -132,7 +132,7 @@ module _ (sides later : Numbered Side) (on : GroupsSame sides later) where
 
 -- ---- a put ends
 
-module _ (j : Joint) (kept : Kept j) (w k : ℕ) (r : OpenRequest) (is : map.get j.daemon.requests k ≡ Some r) (put : is_put r.kind ≡ true)
+module _ (j : Joint) (kept : InvariantHolds j) (w k : ℕ) (r : OpenRequest) (is : map.get j.daemon.requests k ≡ Some r) (put : is_put r.kind ≡ true)
     (unreserved : EachRow j.sides (λ g s. IsUnreserved s.copies r.bfid.0)) where
   abbrev b : ℕ
   b = r.bfid.0
@@ -199,7 +199,7 @@ module _ (j : Joint) (kept : Kept j) (w k : ℕ) (r : OpenRequest) (is : map.get
       })
       (sides_without g s at).0
 
-  pub put_ended : Kept (after_ending w (ending.Put k r.bfid groups) j)
+  pub put_ended : InvariantHolds (after_ending w (ending.Put k r.bfid groups) j)
   put_ended =
       let t = j.daemon.tables in
       let h = j.history in

@@ -19,7 +19,7 @@ use Rattle.dm_model.specs.Effects.{after_opening, at_each}
 use Rattle.dm_model.specs.Files.{asked_by, is_put}
 use Rattle.dm_model.specs.SideShare.{side_after_opening}
 use Rattle.dm_invariant.specs.Doubts.{MayLandIf}
-use Rattle.dm_invariant.specs.Kept.{SideKept, committed_in, deleted_in, Kept}
+use Rattle.dm_invariant.specs.Kept.{SideKept, committed_in, deleted_in, InvariantHolds}
 use Rattle.dm_invariant.proofs.AskedGroups.{NumberAmong, among_asked, among_cons, among_one, number_first, number_later}
 use Rattle.dm_effects.proofs.CopyOpened.{side_put_opened}
 use Rattle.dm_effects.proofs.PutEnded.{groups_at_each, there_later}
@@ -53,7 +53,7 @@ changed_side f (h ∷ i ∷ []) sides differ g s is =
     ]
 changed_side f (h ∷ i ∷ k ∷ rest) sides some g s is = absurd some
 
-module _ (j : Joint) (kept : Kept j) (settled : j.daemon.doubt ≡ None) (w k : ℕ) (r : OpenRequest) (len : ℕ) (put : is_put r.kind ≡ true)
+module _ (j : Joint) (kept : InvariantHolds j) (settled : j.daemon.doubt ≡ None) (w k : ℕ) (r : OpenRequest) (len : ℕ) (put : is_put r.kind ≡ true)
     (opens : RequestOpens j.daemon.requests j.daemon.next_request j.daemon.tables.inodes j.daemon.tables.entries j.history.contents k r)
     (len_is : opens.entry.entry.len ≡ len) where
   abbrev groups : List GroupId
@@ -109,7 +109,7 @@ module _ (j : Joint) (kept : Kept j) (settled : j.daemon.doubt ≡ None) (w k : 
         | inr same ↦ subst (SideLater g) (sym same) (side_stays g was.side was.is)
       ]
 
-  pub put_opened : Kept (after_opening w (opening.Put k r len groups) j)
+  pub put_opened : InvariantHolds (after_opening w (opening.Put k r len groups) j)
   put_opened =
       let t = j.daemon.tables in
       let h = j.history in

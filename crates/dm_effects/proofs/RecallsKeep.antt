@@ -13,14 +13,14 @@ use Rattle.dm_model.specs.declared.state.Worker.{Worker}
 use Rattle.dm_model.specs.Effects.{after_ending, after_opening}
 use Rattle.dm_model.specs.Files.{is_put, is_recall}
 use Rattle.dm_invariant.specs.Doubts.{MayLandIf}
-use Rattle.dm_invariant.specs.Kept.{committed_in, deleted_in, Kept}
+use Rattle.dm_invariant.specs.Kept.{committed_in, deleted_in, InvariantHolds}
 use Rattle.dm_effects.proofs.RequestsEnded.{recall_no_put, requests_without, doubt_without, recalls_recall_ended}
 use Rattle.dm_effects.proofs.RequestsOpened.{RequestOpens, RecallOpens, number_free, requests_with, recalls_recall_opened}
 use Rattle.dm_effects.proofs.SidesRequests.{side_puts_stay, puts_stay_without, puts_stay_with}
 
 -- a recall that a worker has ends
-pub recall_ended : (j : Joint) → Kept j → (w k : ℕ) (r : OpenRequest) (x : Worker) (recall : Recall) → map.get j.daemon.requests k ≡ Some r
-    → is_recall r.kind ≡ true → map.get j.workers w ≡ Some x → map.get x.recalls k ≡ Some recall → Kept (after_ending w (ending.Recall k) j)
+pub recall_ended : (j : Joint) → InvariantHolds j → (w k : ℕ) (r : OpenRequest) (x : Worker) (recall : Recall) → map.get j.daemon.requests k ≡ Some r
+    → is_recall r.kind ≡ true → map.get j.workers w ≡ Some x → map.get x.recalls k ≡ Some recall → InvariantHolds (after_ending w (ending.Recall k) j)
 recall_ended j kept w k r x recall is kind there has =
     let t = j.daemon.tables in
     let h = j.history in
@@ -40,9 +40,9 @@ recall_ended j kept w k r x recall is kind there has =
     }
 
 -- and one opens, where no step of the daemon is in doubt
-pub recall_opened : (j : Joint) → Kept j → j.daemon.doubt ≡ None → (w k : ℕ) (r : OpenRequest) (recall : Recall)
+pub recall_opened : (j : Joint) → InvariantHolds j → j.daemon.doubt ≡ None → (w k : ℕ) (r : OpenRequest) (recall : Recall)
     → RequestOpens j.daemon.requests j.daemon.next_request j.daemon.tables.inodes j.daemon.tables.entries j.history.contents k r
-    → RecallOpens j.daemon.tables.entries j.history.contents r recall → Kept (after_opening w (opening.Recall k r recall) j)
+    → RecallOpens j.daemon.tables.entries j.history.contents r recall → InvariantHolds (after_opening w (opening.Recall k r recall) j)
 recall_opened j kept settled w k r recall opens recalls =
     let t = j.daemon.tables in
     let h = j.history in

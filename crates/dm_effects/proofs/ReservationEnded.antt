@@ -30,7 +30,7 @@ use Rattle.dm_model.specs.SideShare.{side_after_ending, with_reservation}
 use Rattle.dm_invariant.specs.Kept.{SideKept}
 use Rattle.dm_invariant.specs.Mounts.{OriginKept}
 use Rattle.dm_invariant.specs.OnceLive.{MountOnce, OnceLive}
-use Rattle.dm_invariant.specs.Places.{Has, HasKept, Live, Kept, Target, Doubted, Owner}
+use Rattle.dm_invariant.specs.Places.{HasPlace, HasReserving, Live, Reserving, Target, Doubted, Owner}
 use Rattle.dm_invariant.specs.Reservations.{ReservationKept, CopyKept}
 use Rattle.dm_invariant.proofs.Options.{same_row, none_some}
 use Rattle.dm_invariant.proofs.LookUps.{none_in_empty}
@@ -153,8 +153,8 @@ module _ (reservations : Numbered Reserved) (copies : Numbered CopyState) (n b :
       ]
 
 -- who has a place of a reservation that is left had it before
-kept_left : (reservations : Numbered Reserved) (n k offset : ℕ) (vsn : List ℕ) (place : ℕ) → HasKept (map.remove reservations n) k offset vsn place
-    → HasKept reservations k offset vsn place
+kept_left : (reservations : Numbered Reserved) (n k offset : ℕ) (vsn : List ℕ) (place : ℕ) → HasReserving (map.remove reservations n) k offset vsn place
+    → HasReserving reservations k offset vsn place
 kept_left reservations n k offset vsn place has = record {
   reserved = has.reserved;
   is = (removed numbers reservations n k has.reserved has.is).1;
@@ -166,9 +166,9 @@ kept_left reservations n k offset vsn place has = record {
 
 has_left : (bitfiles : Numbered BitfileRow) (reservations : Numbered Reserved) (moves : Numbered Moving) (doubt : Option GroupRecord) (n : ℕ)
     (o : Owner) (vsn : List ℕ) (place : ℕ)
-    → Has bitfiles (map.remove reservations n) moves doubt o vsn place → Has bitfiles reservations moves doubt o vsn place
+    → HasPlace bitfiles (map.remove reservations n) moves doubt o vsn place → HasPlace bitfiles reservations moves doubt o vsn place
 has_left bitfiles reservations moves doubt n (Live b offset) vsn place has = has
-has_left bitfiles reservations moves doubt n (Kept k offset) vsn place has = kept_left reservations n k offset vsn place has
+has_left bitfiles reservations moves doubt n (Reserving k offset) vsn place has = kept_left reservations n k offset vsn place has
 has_left bitfiles reservations moves doubt n (Target job) vsn place has = has
 has_left bitfiles reservations moves doubt n (Doubted offset) vsn place has = has
 

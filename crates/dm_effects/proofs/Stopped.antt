@@ -20,7 +20,7 @@ use Rattle.dm_model.specs.declared.state.Side.{Side}
 use Rattle.dm_model.specs.SideShare.{side_after_stop}
 use Rattle.dm_invariant.specs.Kept.{SideKept}
 use Rattle.dm_invariant.specs.Mounts.{MountsKept, mounted_of}
-use Rattle.dm_invariant.specs.Places.{Has, Live, Kept, Target, Doubted, Owner, PlacesKept}
+use Rattle.dm_invariant.specs.Places.{HasPlace, Live, Reserving, Target, Doubted, Owner, PlacesKept}
 use Rattle.dm_invariant.specs.Volumes.{VolumeKept, VolumesKept}
 use Rattle.dm_invariant.proofs.LookUps.{none_in_empty}
 
@@ -70,9 +70,9 @@ nothing_mounted conf volumes = record {
 -- who has a place had it before
 had_open : (bitfiles : Numbered BitfileRow) (reservations : Numbered Reserved) (moves : Numbered Moving) (doubt : Option GroupRecord)
     (o : Owner) (vsn : List ℕ) (place : ℕ)
-    → Has bitfiles map.empty map.empty None o vsn place → Has bitfiles reservations moves doubt o vsn place
+    → HasPlace bitfiles map.empty map.empty None o vsn place → HasPlace bitfiles reservations moves doubt o vsn place
 had_open bitfiles reservations moves doubt (Live b offset) vsn place has = has
-had_open bitfiles reservations moves doubt (Kept n offset) vsn place has = absurd (none_in_empty nat_cmp map.empty n has.reserved refl has.is)
+had_open bitfiles reservations moves doubt (Reserving n offset) vsn place has = absurd (none_in_empty nat_cmp map.empty n has.reserved refl has.is)
 had_open bitfiles reservations moves doubt (Target job) vsn place has = absurd (none_in_empty nat_cmp map.empty job has.moving refl has.is)
 had_open bitfiles reservations moves doubt (Doubted offset) vsn place has = absurd has.among
 

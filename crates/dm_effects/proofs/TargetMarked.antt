@@ -4,7 +4,7 @@ use Rattle.std.specs.FinMap as map
 use Rattle.dm_base.specs.declared.identifier.GroupId.{GroupId}
 use Rattle.dm_base.specs.declared.serial.Vsn.{Vsn}
 use Rattle.dm_base.specs.declared.volume.Chunk.{Chunk}
-use Rattle.dm_rules.specs.Known.{forgotten, known_bytes, written}
+use Rattle.dm_rules.specs.Known.{known_without_range, known_bytes, known_with_write}
 use Rattle.dm_rules.specs.Zone.{weight}
 use Rattle.dm_tables.specs.Rows.{adjust}
 use Rattle.dm_tables.proofs.Orders.{numbers}
@@ -21,7 +21,7 @@ use Rattle.dm_model.specs.SideShare.{known_by, side_after_failed_mark, side_afte
 use Rattle.dm_invariant.specs.Assemble.{known_on}
 use Rattle.dm_invariant.specs.Kept.{SideKept}
 use Rattle.dm_invariant.specs.Moves.{ReadRight, TargetWritten, WrittenRight}
-use Rattle.dm_invariant.specs.Places.{Doubted, HasTarget, Kept, Live, Owner, Target}
+use Rattle.dm_invariant.specs.Places.{Doubted, HasTarget, Reserving, Live, Owner, Target}
 use Rattle.dm_invariant.proofs.Options.{same_row}
 use Rattle.dm_landing.proofs.VolumesOnward.{piece_among}
 use Rattle.dm_effects.proofs.Copies.{copies_same}
@@ -47,7 +47,7 @@ written_as zone x = record x { written = zone }
 -- the job of an owner that is the zone of a moved chunk
 abbrev job_of_owner : Owner → ℕ → ℕ
 job_of_owner (Live b offset) other = other
-job_of_owner (Kept n offset) other = other
+job_of_owner (Reserving n offset) other = other
 job_of_owner (Target job) other = job
 job_of_owner (Doubted offset) other = other
 
@@ -97,7 +97,7 @@ module _ (entries : Numbered Entry) (contents : Numbered (List ℕ)) (taken : Nu
         record {
           len = was.len;
           known = range_beside vsn place (length zone) s.images images p.vsn.0 p.zone (length w.zone) beside (λ q same from below low high.
-              let e = kept.places (Kept n p.offset) (Target fits.job) vsn q
+              let e = kept.places (Reserving n p.offset) (Target fits.job) vsn q
               (record {
                 reserved = r;
                 is = is;
@@ -160,7 +160,7 @@ pub side_target_written : (entries : Numbered Entry) (contents : Numbered (List 
     → SideKept entries contents taken requests g committed deleted s
     → SideKept entries contents taken requests g committed deleted (side_after_mark (mark.Target h vsn m place zone) s)
 side_target_written entries contents taken requests g committed deleted s h vsn m place zone fits kept =
-    let images = adjust s.images vsn.0 (known_by (written place zone)) in
+    let images = adjust s.images vsn.0 (known_by (known_with_write place zone)) in
     target_marked entries contents taken requests g committed deleted s vsn.0 m place zone fits kept images
     (image_written vsn.0 place zone s.images) (Some zone)
     (record {
@@ -177,4 +177,4 @@ pub side_target_failed : (entries : Numbered Entry) (contents : Numbered (List �
     → SideKept entries contents taken requests g committed deleted (side_after_failed_mark (mark.Target h vsn m place zone) s)
 side_target_failed entries contents taken requests g committed deleted s h vsn m place zone fits kept =
     target_marked entries contents taken requests g committed deleted s vsn.0 m place zone fits kept
-    (adjust s.images vsn.0 (known_by (forgotten place (length zone)))) (image_forgotten vsn.0 place (length zone) s.images) None tt
+    (adjust s.images vsn.0 (known_by (known_without_range place (length zone)))) (image_forgotten vsn.0 place (length zone) s.images) None tt

@@ -7,7 +7,7 @@ use Rattle.dm_base.specs.declared.identifier.GroupId.{GroupId}
 use Rattle.dm_base.specs.declared.serial.Vsn.{Vsn}
 use Rattle.dm_base.specs.declared.volume.Chunk.{Chunk}
 use Rattle.dm_base.specs.declared.volume.Piece.{Piece}
-use Rattle.dm_rules.specs.Known.{Known, written, forgotten, known_bytes}
+use Rattle.dm_rules.specs.Known.{Known, known_with_write, known_without_range, known_bytes}
 use Rattle.dm_rules.specs.Plan.{zone_end}
 use Rattle.dm_rules.specs.Zone.{weight, zone_length}
 use Rattle.dm_rules.proofs.Knowledge.{get-written_in, known_bytes-each}
@@ -30,12 +30,12 @@ use Rattle.dm_model.specs.declared.state.Side.{Side}
 use Rattle.dm_model.specs.declared.state.WrittenZone.{WrittenZone}
 use Rattle.dm_model.specs.GroupCalls.{piece_at}
 use Rattle.dm_model.specs.SideShare.{known_by, reservation_by, side_after_failed_mark, side_after_mark, with_written, without_written}
-use Rattle.dm_invariant.specs.Among.{Among}
+use Rattle.dm_invariant.specs.Among.{IsAmong}
 use Rattle.dm_invariant.specs.Assemble.{known_of, known_on}
 use Rattle.dm_invariant.specs.Kept.{SideKept}
 use Rattle.dm_invariant.specs.Moves.{TargetWritten, WrittenRight}
 use Rattle.dm_invariant.specs.OnceLive.{StillThere}
-use Rattle.dm_invariant.specs.Places.{Doubted, HasKept, Kept, Live, Owner, Target}
+use Rattle.dm_invariant.specs.Places.{Doubted, HasReserving, Reserving, Live, Owner, Target}
 use Rattle.dm_invariant.specs.Reservations.{PiecesJoin, WrittenKept}
 use Rattle.dm_invariant.proofs.Options.{same_row}
 use Rattle.dm_landing.proofs.VolumesOnward.{piece_among}
@@ -50,7 +50,7 @@ piece_after k q qs =
     let less : k ≡ suc k - 1 = omega arith in
     ap (λ j. piece_at j qs) less ∙ sym (ap (λ b. cond b (Some q) (piece_at (suc k - 1) qs)) (ne_eqb (suc k) 0 (λ e. omega (arith, e))))
 
-behind_first : (from to : ℕ) (ps : List Piece) (p : Piece) → PiecesJoin from ps to → Among p ps → from ≤ p.offset
+behind_first : (from to : ℕ) (ps : List Piece) (p : Piece) → PiecesJoin from ps to → IsAmong p ps → from ≤ p.offset
 behind_first from to [] p join among = absurd among
 behind_first from to (q ∷ ps) p join among =
     let at : q.offset ≡ from = join.0 in
@@ -80,18 +80,18 @@ pieces_apart from (x ∷ xs) to (suc k) (suc l) p q join is at same =
 
 -- ---- what is known where a zone was written
 
-known_whole : (place : ℕ) (zone : List ℕ) (known : Known) → known_bytes (written place zone known) place (length zone) ≡ Some zone
-known_whole place zone known = known_bytes-each (written place zone known) place zone (λ i below. get-written_in place zone known i below)
+known_whole : (place : ℕ) (zone : List ℕ) (known : Known) → known_bytes (known_with_write place zone known) place (length zone) ≡ Some zone
+known_whole place zone known = known_bytes-each (known_with_write place zone known) place zone (λ i below. get-written_in place zone known i below)
 
 known_there : (place : ℕ) (zone : List ℕ) (o : Option Image) → IsSome o
-    → known_bytes (known_of (option_map (known_by (written place zone)) o)) place (length zone) ≡ Some zone
+    → known_bytes (known_of (option_map (known_by (known_with_write place zone)) o)) place (length zone) ≡ Some zone
 known_there place zone None is = cc
 known_there place zone (Some i) is = known_whole place zone i.known
 
 pub known_here : (vsn : List ℕ) (place : ℕ) (zone : List ℕ) (images : Named Image) → IsSome (map.get images vsn)
-    → known_bytes (known_on (adjust images vsn (known_by (written place zone))) vsn) place (length zone) ≡ Some zone
+    → known_bytes (known_on (adjust images vsn (known_by (known_with_write place zone))) vsn) place (length zone) ≡ Some zone
 known_here vsn place zone images is =
-    ap (λ o. known_bytes (known_of o) place (length zone)) (adjusted-here paths images vsn (known_by (written place zone)))
+    ap (λ o. known_bytes (known_of o) place (length zone)) (adjusted-here paths images vsn (known_by (known_with_write place zone)))
     ∙ known_there place zone (map.get images vsn) is
 
 written_piece : (images : Named Image) (vsn : List ℕ) (place chunk : ℕ) (zone : List ℕ) (p : Piece) (w : WrittenZone) → p.vsn.0 ≡ vsn
@@ -125,19 +125,19 @@ pub record ZoneFits (s : Side) (vsn : List ℕ) (place : ℕ) (zone : List ℕ) 
 -- the number and the offset of an owner that is a zone of a reservation
 abbrev number_of : Owner → ℕ
 number_of (Live b offset) = 0
-number_of (Kept n offset) = n
+number_of (Reserving n offset) = n
 number_of (Target job) = 0
 number_of (Doubted offset) = 0
 
 abbrev offset_of : Owner → ℕ
 offset_of (Live b offset) = offset
-offset_of (Kept n offset) = offset
+offset_of (Reserving n offset) = offset
 offset_of (Target job) = 0
 offset_of (Doubted offset) = offset
 
 piece_has : (reservations : Numbered Reserved) (n : ℕ) (r : Reserved) (i : ℕ) (p : Piece) (vsn : List ℕ) (long q : ℕ)
     → map.get reservations n ≡ Some r → piece_at i r.pieces ≡ Some p → p.vsn.0 ≡ vsn
-    → long ≡ zone_length p.version r.chunk p.len → p.zone ≤ q → q < p.zone + long → HasKept reservations n p.offset vsn q
+    → long ≡ zone_length p.version r.chunk p.len → p.zone ≤ q → q < p.zone + long → HasReserving reservations n p.offset vsn q
 piece_has reservations n r i p vsn long q is at same len low high = record {
   reserved = r;
   is = is;
@@ -148,7 +148,7 @@ piece_has reservations n r i p vsn long q is at same len low high = record {
 }
 
 module _ (s : Side) (vsn : List ℕ) (place : ℕ) (zone : List ℕ) (b index : ℕ) (fits : ZoneFits s vsn place zone b index) where
-  zone_has : (q : ℕ) → place ≤ q → q < place + length zone → HasKept s.group.reservations fits.held.number fits.piece.offset vsn q
+  zone_has : (q : ℕ) → place ≤ q → q < place + length zone → HasReserving s.group.reservations fits.held.number fits.piece.offset vsn q
   zone_has q low high =
       piece_has s.group.reservations fits.held.number fits.reserved index fits.piece vsn (length zone) q fits.there fits.at fits.volume fits.len
       (subst (λ p. p ≤ q) (sym fits.stands) low)
@@ -159,13 +159,13 @@ module _ (s : Side) (vsn : List ℕ) (place : ℕ) (zone : List ℕ) (b index : 
     zone_spared : SparesChunks contents s vsn place (length zone)
     zone_spared = record {
       live = λ c row is d among q covers low high.
-          let e = kept.places (Live c d.offset) (Kept fits.held.number fits.piece.offset) vsn q
+          let e = kept.places (Live c d.offset) (Reserving fits.held.number fits.piece.offset) vsn q
           (record { row = row; is = is; chunk = d; among = among; at = refl; covers = covers }) (zone_has q low high) in cc;
       once = λ v c d there q covers low high. there.beside_kept fits.held.number fits.piece.offset q
           (record { same = refl; low = covers.low; high = covers.high })
-          (subst (λ u. HasKept s.group.reservations fits.held.number fits.piece.offset u q) (sym covers.same) (zone_has q low high));
+          (subst (λ u. HasReserving s.group.reservations fits.held.number fits.piece.offset u q) (sym covers.same) (zone_has q low high));
       doubted = λ d is q covers low high.
-          let e = kept.places (Doubted d.offset) (Kept fits.held.number fits.piece.offset) vsn q
+          let e = kept.places (Doubted d.offset) (Reserving fits.held.number fits.piece.offset) vsn q
           (record { chunk = d; among = is; at = refl; covers = covers }) (zone_has q low high) in cc;
     }
 
@@ -191,7 +191,7 @@ module _ (s : Side) (vsn : List ℕ) (place : ℕ) (zone : List ℕ) (b index : 
           record {
             len = was.len;
             known = range_beside vsn place (length zone) s.images images p.vsn.0 p.zone (length w.zone) beside (λ q same from below low high.
-                let one = kept.places (Kept n p.offset) (Kept fits.held.number fits.piece.offset) vsn q
+                let one = kept.places (Reserving n p.offset) (Reserving fits.held.number fits.piece.offset) vsn q
                 (piece_has s.group.reservations n r i p vsn (length w.zone) q is at same was.len from below) (zone_has q low high) in
                 other (ap number_of one) (ap offset_of one)) ∙ was.known;
           }
@@ -224,7 +224,7 @@ module _ (s : Side) (vsn : List ℕ) (place : ℕ) (zone : List ℕ) (b index : 
       target_beside job x (Some z) is k = record {
         len = k.len;
         known = range_beside vsn place (length zone) s.images images x.to.vsn.0 x.to.zone (length z) beside (λ q same from below low high.
-            let e = kept.places (Target job) (Kept fits.held.number fits.piece.offset) vsn q
+            let e = kept.places (Target job) (Reserving fits.held.number fits.piece.offset) vsn q
             (record { moving = x; is = is; covers = record { same = same; low = from; high = subst (λ l. q < x.to.zone + l) k.len below } })
             (zone_has q low high) in cc) ∙ k.known;
       }
@@ -264,7 +264,7 @@ pub side_zone_written : (entries : Numbered Entry) (contents : Numbered (List �
     → SideKept entries contents taken requests g committed deleted (side_after_mark (mark.Zone h vsn place zone b index epoch) s)
 side_zone_written entries contents taken requests g committed deleted s h vsn place zone b index epoch fits kept =
     side_marked s vsn.0 place zone b.0 index fits entries contents taken requests g committed deleted kept
-    (adjust s.images vsn.0 (known_by (written place zone))) (image_written vsn.0 place zone s.images) (with_written index epoch zone)
+    (adjust s.images vsn.0 (known_by (known_with_write place zone))) (image_written vsn.0 place zone s.images) (with_written index epoch zone)
     (λ h i w put. elim (inserted numbers h.written index (record { epoch = epoch; zone = zone }) i w put) [
       | inl here ↦ inr (here.0, ap (λ (x : WrittenZone). x.zone) here.1, known_here vsn.0 place zone s.images fits.image)
       | inr old ↦ inl old
@@ -279,6 +279,6 @@ pub side_zone_failed : (entries : Numbered Entry) (contents : Numbered (List ℕ
     → SideKept entries contents taken requests g committed deleted (side_after_failed_mark (mark.Zone h vsn place zone b index epoch) s)
 side_zone_failed entries contents taken requests g committed deleted s h vsn place zone b index epoch fits kept =
     side_marked s vsn.0 place zone b.0 index fits entries contents taken requests g committed deleted kept
-    (adjust s.images vsn.0 (known_by (forgotten place (length zone)))) (image_forgotten vsn.0 place (length zone) s.images) (without_written index)
+    (adjust s.images vsn.0 (known_by (known_without_range place (length zone)))) (image_forgotten vsn.0 place (length zone) s.images) (without_written index)
     (λ h i w put. inl (removed numbers h.written index i w put))
     (λ h. record { number = refl; mounts = refl })

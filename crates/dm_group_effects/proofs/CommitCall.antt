@@ -35,11 +35,11 @@ use Rattle.dm_model.specs.declared.state.WrittenZone.{WrittenZone}
 use Rattle.dm_model.specs.Effects.{after_ending}
 use Rattle.dm_model.specs.GroupCalls.{all_written, are_sums_of, are_written, commit, commit_needs, group_time, is_part, is_zone_of, piece_at, piece_sums, piece_zone, reservation_in, summed_chunks}
 use Rattle.dm_model.specs.SideShare.{side_after_ending}
-use Rattle.dm_invariant.specs.Among.{Among}
+use Rattle.dm_invariant.specs.Among.{IsAmong}
 use Rattle.dm_invariant.specs.Assemble.{ChunkKnown, SumRight, known_on}
 use Rattle.dm_invariant.specs.Doubts.{CommitNeeds}
-use Rattle.dm_invariant.specs.Kept.{Kept, SideKept, committed_in, deleted_in}
-use Rattle.dm_invariant.specs.Places.{ChunkCovers, Doubted, Has, HasKept, Kept as KeptPlace, Live, Owner, PlacesKept, Target}
+use Rattle.dm_invariant.specs.Kept.{InvariantHolds, SideKept, committed_in, deleted_in}
+use Rattle.dm_invariant.specs.Places.{ChunkCovers, Doubted, HasPlace, HasReserving, Reserving as KeptPlace, Live, Owner, PlacesKept, Target}
 use Rattle.dm_invariant.specs.Requests.{RequestEntry}
 use Rattle.dm_invariant.specs.Reservations.{CopyKept, PiecesJoin, ReservationKept, WrittenKept, ZoneInHand}
 use Rattle.dm_invariant.proofs.Options.{same_row}
@@ -71,7 +71,7 @@ offset_of (Doubted offset) = offset
 
 -- ---- pieces
 
-behind_first : (from to : ℕ) (ps : List Piece) (p : Piece) → PiecesJoin from ps to → Among p ps → from ≤ p.offset
+behind_first : (from to : ℕ) (ps : List Piece) (p : Piece) → PiecesJoin from ps to → IsAmong p ps → from ≤ p.offset
 behind_first from to [] p join among = absurd among
 behind_first from to (q ∷ ps) p join among =
     let at : q.offset ≡ from = join.0 in
@@ -81,7 +81,7 @@ behind_first from to (q ∷ ps) p join among =
     ]
 
 -- each has an offset of its own
-one_piece : (from to : ℕ) (ps : List Piece) (p q : Piece) → PiecesJoin from ps to → Among p ps → Among q ps → p.offset ≡ q.offset → p ≡ q
+one_piece : (from to : ℕ) (ps : List Piece) (p q : Piece) → PiecesJoin from ps to → IsAmong p ps → IsAmong q ps → p.offset ≡ q.offset → p ≡ q
 one_piece from to [] p q join one two same = absurd one
 one_piece from to (x ∷ ps) p q join one two same =
     let at : x.offset ≡ from = join.0 in
@@ -125,7 +125,7 @@ written_as bytes r written index p (Some w) e holds = record {
 
 -- each piece of the list was written so, under its place in the list
 piece_written : (bytes : List ℕ) (r : Reserved) (written : Numbered WrittenZone) (k : ℕ) (ps : List Piece) (p : Piece)
-    → are_written bytes r written k ps ≡ true → Among p ps
+    → are_written bytes r written k ps ≡ true → IsAmong p ps
     → (index : ℕ) × (piece_at index ps ≡ Some p) × WrittenAs bytes r written (k + index) p
 piece_written bytes r written k [] p all among = absurd among
 piece_written bytes r written k (q ∷ ps) p all among =
@@ -172,14 +172,14 @@ module _ (g : ℕ) (entries : Numbered Entry) (contents : Numbered (List ℕ)) (
   -- a chunk with its piece
   record ChunkMade (c : Chunk) : Type 0 where
     piece : Piece
-    among : Among piece r.pieces
+    among : IsAmong piece r.pieces
     base : Chunk
-    part : Among base (chunks_of r.chunk piece)
+    part : IsAmong base (chunks_of r.chunk piece)
     same : with_sum piece.version copied.bytes base ≡ c
     inside : ChunkInside r.chunk piece base
     hand : ZoneInHand s.group.tables.volumes s.group.tips r.chunk piece
 
-  chunk_made : (c : Chunk) → Among c all_chunks → ChunkMade c
+  chunk_made : (c : Chunk) → IsAmong c all_chunks → ChunkMade c
   chunk_made c among =
       let of = summed_of r.chunk copied.bytes r.pieces c among in
       record {
@@ -200,7 +200,7 @@ module _ (g : ℕ) (entries : Numbered Entry) (contents : Numbered (List ℕ)) (
 
   -- and so of the zone of its piece
   zone_covers : (c : Chunk) (vsn : List ℕ) (place : ℕ) (m : ChunkMade c)
-      → ChunkCovers c vsn place → HasKept s.group.reservations n m.piece.offset vsn place
+      → ChunkCovers c vsn place → HasReserving s.group.reservations n m.piece.offset vsn place
   zone_covers c vsn place m covers =
       let d = base_covers c vsn place m covers in
       let low = m.inside.low in
@@ -221,7 +221,7 @@ module _ (g : ℕ) (entries : Numbered Entry) (contents : Numbered (List ℕ)) (
       }
 
   -- no place is of two chunks
-  made_apart : (c d : Chunk) (vsn : List ℕ) (place : ℕ) → Among c all_chunks → Among d all_chunks → ChunkCovers c vsn place → ChunkCovers d vsn place
+  made_apart : (c d : Chunk) (vsn : List ℕ) (place : ℕ) → IsAmong c all_chunks → IsAmong d all_chunks → ChunkCovers c vsn place → ChunkCovers d vsn place
       → c.offset ≡ d.offset
   made_apart c d vsn place one two cover covers =
       let a = chunk_made c one in
@@ -229,7 +229,7 @@ module _ (g : ℕ) (entries : Numbered Entry) (contents : Numbered (List ℕ)) (
       let owner = kept.places (KeptPlace n a.piece.offset) (KeptPlace n b.piece.offset) vsn place (zone_covers c vsn place a cover)
       (zone_covers d vsn place b covers) in
       let same = one_piece 0 r.len r.pieces a.piece b.piece mine.joins a.among b.among (ap offset_of owner) in
-      let base = chunks_apart r.chunk b.piece a.base b.base vsn place mine.some (subst (λ p. Among a.base (chunks_of r.chunk p)) same a.part) b.part
+      let base = chunks_apart r.chunk b.piece a.base b.base vsn place mine.some (subst (λ p. IsAmong a.base (chunks_of r.chunk p)) same a.part) b.part
       (base_covers c vsn place a cover) (base_covers d vsn place b covers) in
       sym (ap (λ (x : Chunk). x.offset) a.same) ∙ base ∙ ap (λ (x : Chunk). x.offset) b.same
 
@@ -244,7 +244,7 @@ module _ (g : ℕ) (entries : Numbered Entry) (contents : Numbered (List ℕ)) (
       let high = inside.high in
       omega (arith, high, within)
 
-  made_below : (c : Chunk) (v : VolumeRow) → Among c all_chunks → map.get s.group.tables.volumes c.vsn.0 ≡ Some v
+  made_below : (c : Chunk) (v : VolumeRow) → IsAmong c all_chunks → map.get s.group.tables.volumes c.vsn.0 ≡ Some v
       → c.place + c.len ≤ tip_in s.group.tips c.vsn.0 v
   made_below c v among =
       let m = chunk_made c among in
@@ -269,12 +269,12 @@ module _ (g : ℕ) (entries : Numbered Entry) (contents : Numbered (List ℕ)) (
         sum = sum_there (has_sum p.version) _ ∙ ap has_sum hand.version;
       }
 
-  made_lies : (c : Chunk) → Among c all_chunks → LiesOn s.group.tables.volumes c
+  made_lies : (c : Chunk) → IsAmong c all_chunks → LiesOn s.group.tables.volumes c
   made_lies c among =
       let m = chunk_made c among in
       subst (LiesOn s.group.tables.volumes) m.same (base_lies m.piece m.base m.inside m.hand)
 
-  made_right : (c : Chunk) → Among c all_chunks → SumRight copied.bytes c
+  made_right : (c : Chunk) → IsAmong c all_chunks → SumRight copied.bytes c
   made_right c among =
       let m = chunk_made c among in
       subst (SumRight copied.bytes) m.same (sum_right (has_sum m.piece.version) _)
@@ -289,7 +289,7 @@ module _ (g : ℕ) (entries : Numbered Entry) (contents : Numbered (List ℕ)) (
       was.0 (sym k.number ∙ ap (λ h. h.number) held ∙ mine.number)
 
   -- each chunk is known to be its part of the content
-  made_known : all_written (map.get contents r.bfid.0) r (reservation_in (map.get s.copies r.bfid.0)) ≡ true → (c : Chunk) → Among c all_chunks
+  made_known : all_written (map.get contents r.bfid.0) r (reservation_in (map.get s.copies r.bfid.0)) ≡ true → (c : Chunk) → IsAmong c all_chunks
       → ChunkKnown s.images copied.bytes c
   made_known all c among =
       let content = ap (λ o. all_written o r (reservation_in (map.get s.copies r.bfid.0))) copied.content in
@@ -351,12 +351,12 @@ module _ (g : ℕ) (entries : Numbered Entry) (contents : Numbered (List ℕ)) (
 
   -- who has a place while the commit is journalled: another than the reservation, or a chunk of it
   record IsOther (o : Owner) (vsn : List ℕ) (place : ℕ) : Type 0 where
-    has : Has s.group.tables.bitfiles s.group.reservations s.group.moves s.group.doubt o vsn place
+    has : HasPlace s.group.tables.bitfiles s.group.reservations s.group.moves s.group.doubt o vsn place
     sure : (offset : ℕ) → o ≡ KeptPlace n offset → ⊥
 
   record IsMine (o : Owner) (vsn : List ℕ) (place : ℕ) : Type 0 where
     chunk : Chunk
-    among : Among chunk all_chunks
+    among : IsAmong chunk all_chunks
     owner : o ≡ Doubted chunk.offset
     covers : ChunkCovers chunk vsn place
 
@@ -365,7 +365,7 @@ module _ (g : ℕ) (entries : Numbered Entry) (contents : Numbered (List ℕ)) (
     committing = Some (record { time = time; step = step.Commit r.bfid r.len all_chunks })
 
     had : (o : Owner) (vsn : List ℕ) (place : ℕ)
-        → Has s.group.tables.bitfiles (map.remove s.group.reservations n) s.group.moves committing o vsn place
+        → HasPlace s.group.tables.bitfiles (map.remove s.group.reservations n) s.group.moves committing o vsn place
         → IsOther o vsn place ⊎ IsMine o vsn place
     had (Live b offset) vsn place h = inl (record { has = h; sure = λ i e. cc })
     had (KeptPlace q offset) vsn place h =
@@ -406,7 +406,7 @@ sums_are (Some xs) bytes r sums is e =
     let same : xs ≡ bytes = cc in
     same_sums_are sums (flat_map (piece_sums r.chunk xs) r.pieces) e ∙ ap (λ ys. flat_map (piece_sums r.chunk ys) r.pieces) same
 
-module _ (j : Joint) (kept : Kept j) (w : ℕ) (g : GroupId) (s : Side) (side : map.get j.sides g.0 ≡ Some s) where
+module _ (j : Joint) (kept : InvariantHolds j) (w : ℕ) (g : GroupId) (s : Side) (side : map.get j.sides g.0 ≡ Some s) where
   abbrev done : Option GroupHistory
   done = map.get j.history.groups g.0
 

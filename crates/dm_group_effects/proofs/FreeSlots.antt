@@ -12,7 +12,7 @@ use Rattle.dm_tables.proofs.Any.{any-true, any-false}
 use Rattle.dm_durable.specs.Tables.{Named, same_text}
 use Rattle.dm_durable.specs.declared.group.VolumeRow.{VolumeRow}
 use Rattle.dm_durable.specs.Volumes.{free_slot}
-use Rattle.dm_invariant.specs.Among.{Among}
+use Rattle.dm_invariant.specs.Among.{IsAmong}
 use Rattle.dm_invariant.proofs.Texts.{texts_equal}
 
 -- ---- numbers of a list
@@ -32,7 +32,7 @@ without_fewer n (k ∷ ks) =
     ]
 
 -- one that is there is taken out
-without_one : (n : ℕ) (ks : List ℕ) → Among n ks → length (without n ks) < length ks
+without_one : (n : ℕ) (ks : List ℕ) → IsAmong n ks → length (without n ks) < length ks
 without_one n [] among = absurd among
 without_one n (k ∷ ks) (inl same) =
     let rest = without_fewer n ks in
@@ -47,22 +47,22 @@ without_one n (k ∷ ks) (inr among) =
     ]
 
 -- the others are left
-without_others : (n k : ℕ) (ks : List ℕ) → k ≢ n → Among k ks → Among k (without n ks)
+without_others : (n k : ℕ) (ks : List ℕ) → k ≢ n → IsAmong k ks → IsAmong k (without n ks)
 without_others n k [] differ among = among
 without_others n k (q ∷ ks) differ (inl same) =
-    elim (nat_eq q n) as (λ t. nat_eq q n ≡ t → Among k (cond t (without n ks) (q ∷ without n ks))) [
+    elim (nat_eq q n) as (λ t. nat_eq q n ≡ t → IsAmong k (cond t (without n ks) (q ∷ without n ks))) [
       | true ↦ λ here. absurd (differ (same ∙ eqb-true q n here))
       | false ↦ λ _. inl same
     ] refl
 without_others n k (q ∷ ks) differ (inr among) =
     let rest = without_others n k ks differ among in
-    elim (nat_eq q n) as (λ t. Among k (cond t (without n ks) (q ∷ without n ks))) [ true ↦ rest | false ↦ inr rest ]
+    elim (nat_eq q n) as (λ t. IsAmong k (cond t (without n ks) (q ∷ without n ks))) [ true ↦ rest | false ↦ inr rest ]
 
 -- a list with each number below n has n numbers at least
-all_below : (n : ℕ) (ks : List ℕ) → ((k : ℕ) → k < n → Among k ks) → n ≤ length ks
+all_below : (n : ℕ) (ks : List ℕ) → ((k : ℕ) → k < n → IsAmong k ks) → n ≤ length ks
 all_below zero ks all = omega arith
 all_below (suc n) ks all =
-    let others : (k : ℕ) → k < n → Among k (without n ks) =
+    let others : (k : ℕ) → k < n → IsAmong k (without n ks) =
     λ k below. without_others n k ks (λ same. omega (arith, below, same)) (all k (omega (arith, below))) in
     let rest : n ≤ length (without n ks) = all_below n (without n ks) others in
     let one = without_one n ks (all n (omega arith)) in
@@ -105,20 +105,20 @@ slots_less volumes (v ∷ vs) x none is =
           omega (arith, more, rest)
     ] refl is
 
-among_slot : (o : Option VolumeRow) (k : ℕ) (ks : List ℕ) → Among k ks → Among k (slot_and o ks)
+among_slot : (o : Option VolumeRow) (k : ℕ) (ks : List ℕ) → IsAmong k ks → IsAmong k (slot_and o ks)
 among_slot None k ks among = among
 among_slot (Some r) k ks among = inr among
 
 -- the slot of each of the volumes is there
 slot_there : (volumes : Named VolumeRow) (vs : List Vsn) (x : List ℕ) (r : VolumeRow) → map.get volumes x ≡ Some r
-    → list_any (λ v. same_text v.0 x) vs ≡ true → Among r.slot (slots_of volumes vs)
+    → list_any (λ v. same_text v.0 x) vs ≡ true → IsAmong r.slot (slots_of volumes vs)
 slot_there volumes [] x r there is = cc
 slot_there volumes (v ∷ vs) x r there is =
     elim (same_text v.0 x) as (λ t. same_text v.0 x ≡ t → (t || list_any (λ v. same_text v.0 x) vs) ≡ true
-    → Among r.slot (slot_and (map.get volumes v.0) (slots_of volumes vs))) [
+    → IsAmong r.slot (slot_and (map.get volumes v.0) (slots_of volumes vs))) [
       | true ↦ λ here _.
           let at : map.get volumes v.0 ≡ Some r = ap (λ (t : List ℕ). map.get volumes t) (texts_equal v.0 x here) ∙ there in
-          subst (λ o. Among r.slot (slot_and o (slots_of volumes vs))) (sym at) (inl refl)
+          subst (λ o. IsAmong r.slot (slot_and o (slots_of volumes vs))) (sym at) (inl refl)
       | false ↦ λ _ rest. among_slot (map.get volumes v.0) r.slot (slots_of volumes vs) (slot_there volumes vs x r there rest)
     ] refl is
 
@@ -178,7 +178,7 @@ slot_free volumes vs limit x each many is none =
       | inr taken ↦
           let all : limit ≤ length (slots_of volumes vs) = all_below limit (slots_of volumes vs) (λ k below.
           let has = taken k (omega arith) (omega (arith, below)) in
-          subst (λ q. Among q (slots_of volumes vs)) has.same (slot_there volumes vs has.vsn has.row has.is (each has.vsn has.row has.is))) in
+          subst (λ q. IsAmong q (slots_of volumes vs)) has.same (slot_there volumes vs has.vsn has.row has.is (each has.vsn has.row has.is))) in
           let less = slots_less volumes vs x none is in
           absurd (omega (arith, all, less, many))
     ]

@@ -14,13 +14,13 @@ use Rattle.dm_model.specs.declared.plan.Payload.{Payload}
 use Rattle.dm_model.specs.declared.plan.Payload.TheVariants as payload
 use Rattle.dm_model.specs.declared.state.Joint.{Joint}
 use Rattle.dm_model.specs.declared.state.Side.{Side}
-use Rattle.dm_model.specs.Effects.{after_ending, after_failed_mark, after_healing, after_mark, after_opening, after_payload, doubting}
+use Rattle.dm_model.specs.Effects.{after_ending, after_failed_mark, after_healing, after_mark, after_opening, after_payload, joint_with_doubt}
 use Rattle.dm_model.specs.Guards.{AllHold, Guarded, NoneHold, first_true, lower_of, lowest_false}
-use Rattle.dm_model.specs.Plan.{Needs, Plan, guards_always, guards_of, if_accepted, prepared, refusal_of}
+use Rattle.dm_model.specs.Plan.{Needs, Plan, guards_always, guards_of, if_accepted, prepared_plan, refusal_of}
 use Rattle.dm_model.specs.SideShare.{side_after_ending, side_after_opening, side_without_doubt}
 use Rattle.dm_model.specs.Step.{after_call, after_fault}
 use Rattle.dm_model.proofs.Shares.{EndsOf, OpensOf, ending-at, healing-at}
-use Rattle.dm_invariant.specs.Kept.{Kept}
+use Rattle.dm_invariant.specs.Kept.{InvariantHolds}
 use Rattle.dm_effects.proofs.BeginningCalls.{always_hold}
 use Rattle.dm_group_effects.proofs.PartsKept.{Pays, doubting_keeps, ending_keeps, healing_keeps, landing_keeps, opening_keeps}
 use Rattle.dm_group_effects.proofs.SideChanges.{KeptAs}
@@ -53,30 +53,30 @@ PaysIf j g s None = Unit {0}
 PaysIf j g s (Some (payload.Daemon r)) = ⊥
 PaysIf j g s (Some (payload.Group h r)) = (h ≡ g) × Pays j g.0 s r
 
-module _ (j : Joint) (kept : Kept j) (g : GroupId) (s : Side) (side : map.get j.sides g.0 ≡ Some s) where
+module _ (j : Joint) (kept : InvariantHolds j) (g : GroupId) (s : Side) (side : map.get j.sides g.0 ≡ Some s) where
   paid_keeps : (heals : Bool) (p : Option Payload) → ((heals ≡ true) ⊎ (p ≡ None)) → PaysIf j g s p
-      → Kept (after_payload p (after_healing heals (component.Group g) j))
+      → InvariantHolds (after_payload p (after_healing heals (component.Group g) j))
   paid_keeps heals None healed pays = healing_keeps j kept g s side heals
   paid_keeps heals (Some (payload.Daemon r)) healed pays = absurd pays
   paid_keeps heals (Some (payload.Group h r)) (inr none) pays = absurd (cc)
   paid_keeps heals (Some (payload.Group h r)) (inl heal) pays =
       let lands = landing_keeps j kept g s side r pays.1 in
-      let at = subst (λ (x : GroupId). Kept (after_payload (Some (payload.Group x r)) (after_healing true (component.Group g) j))) (sym pays.0) lands in
-      subst (λ b. Kept (after_payload (Some (payload.Group h r)) (after_healing b (component.Group g) j))) (sym heal) at
+      let at = subst (λ (x : GroupId). InvariantHolds (after_payload (Some (payload.Group x r)) (after_healing true (component.Group g) j))) (sym pays.0) lands in
+      subst (λ b. InvariantHolds (after_payload (Some (payload.Group h r)) (after_healing b (component.Group g) j))) (sym heal) at
 
-  pub doubted_keeps : (far : Bool) (p : Option Payload) → PaysIf j g s p → Kept (doubting (cond far p None) j)
+  pub doubted_keeps : (far : Bool) (p : Option Payload) → PaysIf j g s p → InvariantHolds (joint_with_doubt (cond far p None) j)
   doubted_keeps false p pays = kept
   doubted_keeps true None pays = kept
   doubted_keeps true (Some (payload.Daemon r)) pays = absurd pays
   doubted_keeps true (Some (payload.Group h r)) pays =
-      subst (λ (x : GroupId). Kept (doubting (Some (payload.Group x r)) j)) (sym pays.0) (doubting_keeps j kept g s side r pays.1)
+      subst (λ (x : GroupId). InvariantHolds (joint_with_doubt (Some (payload.Group x r)) j)) (sym pays.0) (doubting_keeps j kept g s side r pays.1)
 
 -- ---- calls
 
 -- a legal call of this plan keeps the state, answered or failed
 pub record CallKept (j : Joint) (w : ℕ) (p : Plan) (n : Needs) : Type 0 where
-  pub answered : AllHold (guards_of (refusal_of p) p n) → Kept (after_call w (prepared p) j)
-  pub failed : AllHold (guards_always p n) → (far : Bool) → Kept (after_fault w (prepared p) far j)
+  pub answered : AllHold (guards_of (refusal_of p) p n) → InvariantHolds (after_call w (prepared_plan p) j)
+  pub failed : AllHold (guards_always p n) → (far : Bool) → InvariantHolds (after_fault w (prepared_plan p) far j)
 
 -- a plan that leaves no mark, makes nothing, and heals or journals nothing
 pub record IsStep (g : GroupId) (p : Plan) : Type 0 where
@@ -107,45 +107,45 @@ pub record OpeningFits (j : Joint) (g : GroupId) (s : Side) (p : Plan) (n : Need
       → KeptAs j g.0 (map.get j.history.groups g.0) (side_after_opening p.opens (side_without_doubt p.heals s))
 
 -- a call that fails: what it spent is kept, and its record may be in doubt
-failed_of : (j : Joint) → Kept j → (g : GroupId) (s : Side) → map.get j.sides g.0 ≡ Some s → (p : Option Payload) (m : Mark) (o : Option Answer)
+failed_of : (j : Joint) → InvariantHolds j → (g : GroupId) (s : Side) → map.get j.sides g.0 ≡ Some s → (p : Option Payload) (m : Mark) (o : Option Answer)
     → m ≡ mark.Nothing → (o ≡ None → PaysIf j g s p) → (far : Bool)
-    → Kept (doubting (cond far (if_accepted o None p) None) (after_failed_mark (if_accepted o mark.Nothing m) j))
+    → InvariantHolds (joint_with_doubt (cond far (if_accepted o None p) None) (after_failed_mark (if_accepted o mark.Nothing m) j))
 failed_of j kept g s side p m None unmarked pays far =
-    subst (λ x. Kept (doubting (cond far p None) (after_failed_mark x j))) (sym unmarked) (doubted_keeps j kept g s side far p (pays refl))
+    subst (λ x. InvariantHolds (joint_with_doubt (cond far p None) (after_failed_mark x j))) (sym unmarked) (doubted_keeps j kept g s side far p (pays refl))
 failed_of j kept g s side p m (Some a) unmarked pays far = doubted_keeps j kept g s side far None tt
 
 -- and one that is answered
-answered_of : (j : Joint) → Kept j → (w : ℕ) (g : GroupId) (s : Side) → map.get j.sides g.0 ≡ Some s
+answered_of : (j : Joint) → InvariantHolds j → (w : ℕ) (g : GroupId) (s : Side) → map.get j.sides g.0 ≡ Some s
     → (heals : Bool) (c : Component) (p : Option Payload) (m : Mark) (x : Opening) (o : Option Answer)
     → c ≡ component.Group g → m ≡ mark.Nothing → x ≡ opening.Nothing → ((heals ≡ true) ⊎ (p ≡ None)) → (o ≡ None → PaysIf j g s p)
-    → Kept (after_opening w (if_accepted o opening.Nothing x)
+    → InvariantHolds (after_opening w (if_accepted o opening.Nothing x)
     (after_mark w (if_accepted o mark.Nothing m) (after_payload (if_accepted o None p) (after_healing heals c j))))
 answered_of j kept w g s side heals c p m x None group unmarked unmade healed pays =
     let one = paid_keeps j kept g s side heals p healed (pays refl) in
-    let two = subst (λ d. Kept (after_payload p (after_healing heals d j))) (sym group) one in
-    let three = subst (λ y. Kept (after_mark w y (after_payload p (after_healing heals c j)))) (sym unmarked) two in
-    subst (λ y. Kept (after_opening w y (after_mark w m (after_payload p (after_healing heals c j))))) (sym unmade) three
+    let two = subst (λ d. InvariantHolds (after_payload p (after_healing heals d j))) (sym group) one in
+    let three = subst (λ y. InvariantHolds (after_mark w y (after_payload p (after_healing heals c j)))) (sym unmarked) two in
+    subst (λ y. InvariantHolds (after_opening w y (after_mark w m (after_payload p (after_healing heals c j))))) (sym unmade) three
 answered_of j kept w g s side heals c p m x (Some a) group unmarked unmade healed pays =
-    subst (λ d. Kept (after_healing heals d j)) (sym group) (healing_keeps j kept g s side heals)
+    subst (λ d. InvariantHolds (after_healing heals d j)) (sym group) (healing_keeps j kept g s side heals)
 
 -- a call that makes something
-opened_of : (j : Joint) → Kept j → (w : ℕ) (g : GroupId) (s : Side) → map.get j.sides g.0 ≡ Some s
+opened_of : (j : Joint) → InvariantHolds j → (w : ℕ) (g : GroupId) (s : Side) → map.get j.sides g.0 ≡ Some s
     → (heals : Bool) (c : Component) (p : Option Payload) (m : Mark) (x : Opening) (o : Option Answer)
     → c ≡ component.Group g → p ≡ None → m ≡ mark.Nothing → OpensOf g x
     → (o ≡ None → KeptAs j g.0 (map.get j.history.groups g.0) (side_after_opening x (side_without_doubt heals s)))
-    → Kept (after_opening w (if_accepted o opening.Nothing x)
+    → InvariantHolds (after_opening w (if_accepted o opening.Nothing x)
     (after_mark w (if_accepted o mark.Nothing m) (after_payload (if_accepted o None p) (after_healing heals c j))))
 opened_of j kept w g s side heals c p m x None group unpaid unmarked of opens =
     let healed = after_healing heals (component.Group g) j in
     let one = opening_keeps healed (healing_keeps j kept g s side heals) g (side_without_doubt heals s) (healing-at g heals j.sides s side) w x of
     (opens refl) in
-    let two = subst (λ d. Kept (after_opening w x (after_healing heals d j))) (sym group) one in
-    let three = subst (λ q. Kept (after_opening w x (after_payload q (after_healing heals c j)))) (sym unpaid) two in
-    subst (λ y. Kept (after_opening w x (after_mark w y (after_payload p (after_healing heals c j))))) (sym unmarked) three
+    let two = subst (λ d. InvariantHolds (after_opening w x (after_healing heals d j))) (sym group) one in
+    let three = subst (λ q. InvariantHolds (after_opening w x (after_payload q (after_healing heals c j)))) (sym unpaid) two in
+    subst (λ y. InvariantHolds (after_opening w x (after_mark w y (after_payload p (after_healing heals c j))))) (sym unmarked) three
 opened_of j kept w g s side heals c p m x (Some a) group unpaid unmarked of opens =
-    subst (λ d. Kept (after_healing heals d j)) (sym group) (healing_keeps j kept g s side heals)
+    subst (λ d. InvariantHolds (after_healing heals d j)) (sym group) (healing_keeps j kept g s side heals)
 
-module _ (j : Joint) (kept : Kept j) (w : ℕ) (g : GroupId) (s : Side) (side : map.get j.sides g.0 ≡ Some s) (p : Plan) (n : Needs) where
+module _ (j : Joint) (kept : InvariantHolds j) (w : ℕ) (g : GroupId) (s : Side) (side : map.get j.sides g.0 ≡ Some s) (p : Plan) (n : Needs) where
   pub step_kept : StepFits j w g s p n → CallKept j w p n
   step_kept fits = record {
     answered = λ legal.
@@ -168,7 +168,7 @@ module _ (j : Joint) (kept : Kept j) (w : ℕ) (g : GroupId) (s : Side) (side : 
   opening_kept fits = record {
     answered = λ legal.
         subst
-        (λ e. Kept (after_opening w (if_accepted (refusal_of p) opening.Nothing p.opens)
+        (λ e. InvariantHolds (after_opening w (if_accepted (refusal_of p) opening.Nothing p.opens)
         (after_mark w (if_accepted (refusal_of p) mark.Nothing p.mark)
         (after_payload (if_accepted (refusal_of p) None p.payload) (after_healing p.heals p.component (after_ending w e j))))))
         (sym fits.is.unended)
@@ -176,7 +176,7 @@ module _ (j : Joint) (kept : Kept j) (w : ℕ) (g : GroupId) (s : Side) (side : 
         (λ none. fits.opens (accepted (refusal_of p) none legal) (none_hold p.refusals none)));
     failed = λ always far.
         subst
-        (λ e. Kept (doubting (cond far (if_accepted (refusal_of p) None p.payload) None)
+        (λ e. InvariantHolds (joint_with_doubt (cond far (if_accepted (refusal_of p) None p.payload) None)
         (after_failed_mark (if_accepted (refusal_of p) mark.Nothing p.mark) (after_ending w e j))))
         (sym fits.is.unended)
         (failed_of j kept g s side p.payload p.mark (refusal_of p) fits.is.unmarked

@@ -30,11 +30,11 @@ use Rattle.dm_model.specs.declared.state.Joint.{Joint}
 use Rattle.dm_model.specs.declared.state.Side.{Side}
 use Rattle.dm_model.specs.GroupCalls.{group_time, merge_first, merge_next, merge_to, reuse_first, reuse_next}
 use Rattle.dm_model.specs.Guards.{Guarded}
-use Rattle.dm_model.specs.Plan.{Plan, nothing}
+use Rattle.dm_model.specs.Plan.{Plan, no_needs}
 use Rattle.dm_model.specs.SideShare.{side_without_doubt}
 use Rattle.dm_model.specs.Volumes.{epoch_of, usage_of}
-use Rattle.dm_invariant.specs.Among.{Among}
-use Rattle.dm_invariant.specs.Kept.{Kept, committed_in, deleted_in}
+use Rattle.dm_invariant.specs.Among.{IsAmong}
+use Rattle.dm_invariant.specs.Kept.{InvariantHolds, committed_in, deleted_in}
 use Rattle.dm_invariant.specs.Moves.{IsReadyAt}
 use Rattle.dm_invariant.proofs.Lists.{among_either, among_if, mapped_among}
 use Rattle.dm_invariant.proofs.Texts.{texts_equal}
@@ -49,7 +49,7 @@ use Rattle.dm_group_effects.proofs.TipsMoved.{new_target}
 
 -- ---- lists
 
-flat_among : {X Y : Type 0} (f : X → List Y) (y : Y) (xs : List X) → Among y (flat_map f xs) → (x : X) × Among x xs × Among y (f x)
+flat_among : {X Y : Type 0} (f : X → List Y) (y : Y) (xs : List X) → IsAmong y (flat_map f xs) → (x : X) × IsAmong x xs × IsAmong y (f x)
 flat_among f y [] among = absurd among
 flat_among f y (x ∷ xs) among =
     elim (among_either y (f x) (flat_map f xs) among) [
@@ -57,10 +57,10 @@ flat_among f y (x ∷ xs) among =
       | inr after ↦ let z = flat_among f y xs after in (z.0, inr z.1, z.2)
     ]
 
-filter_among : {X : Type 0} (t : X → Bool) (x : X) (xs : List X) → Among x (filter t xs) → Among x xs × (t x ≡ true)
+filter_among : {X : Type 0} (t : X → Bool) (x : X) (xs : List X) → IsAmong x (filter t xs) → IsAmong x xs × (t x ≡ true)
 filter_among t x [] among = absurd among
 filter_among {X} t x (y ∷ ys) among =
-    elim (t y) as (λ b. t y ≡ b → Among x (cond b (y ∷ filter t ys) (filter t ys)) → ((x ≡ y) ⊎ Among x ys) × (t x ≡ true)) [
+    elim (t y) as (λ b. t y ≡ b → IsAmong x (cond b (y ∷ filter t ys) (filter t ys)) → ((x ≡ y) ⊎ IsAmong x ys) × (t x ≡ true)) [
       | true ↦ λ passes a. elim a [
         | inl same ↦ (inl same, ap t same ∙ passes)
         | inr after ↦ let z = filter_among t x ys after in (inr z.0, z.1)
@@ -68,12 +68,12 @@ filter_among {X} t x (y ∷ ys) among =
       | false ↦ λ fails a. let z = filter_among t x ys a in (inr z.0, z.1)
     ] refl among
 
-all_among : {X : Type 0} (P : X → Type 0) (x : X) (xs : List X) → AllByRecursion P xs → Among x xs → P x
+all_among : {X : Type 0} (P : X → Type 0) (x : X) (xs : List X) → AllByRecursion P xs → IsAmong x xs → P x
 all_among P x [] all among = absurd among
 all_among P x (y ∷ ys) all (inl same) = subst P (sym same) all.0
 all_among P x (y ∷ ys) all (inr after) = all_among P x ys all.1 after
 
-if_true : {X : Type 0} (b : Bool) (x : X) (xs : List X) → Among x (cond b xs []) → b ≡ true
+if_true : {X : Type 0} (b : Bool) (x : X) (xs : List X) → IsAmong x (cond b xs []) → b ≡ true
 if_true true x xs among = refl
 if_true false x xs among = absurd among
 
@@ -87,7 +87,7 @@ record Reusable (u : Usage) (now hold format : ℕ) (volumes : Named VolumeRow) 
 
 module _ (u : Usage) (now hold format : ℕ) (volumes : Named VolumeRow) where
   reusable_at : (vsn : List ℕ) (v : VolumeRow) (x : Vsn) → map.get volumes vsn ≡ Some v
-      → Among x (of_serial vsn (cond (is_reusable_in u now hold format vsn v) (record { 0 = vsn } ∷ []) [])) → Reusable u now hold format volumes x.0
+      → IsAmong x (of_serial vsn (cond (is_reusable_in u now hold format vsn v) (record { 0 = vsn } ∷ []) [])) → Reusable u now hold format volumes x.0
   reusable_at vsn v x is among =
       let a = among_if (nat_eq (length vsn) VSN_LENGTH) x _ among in
       let may = if_true (is_reusable_in u now hold format vsn v) x _ a in
@@ -98,7 +98,7 @@ module _ (u : Usage) (now hold format : ℕ) (volumes : Named VolumeRow) where
         | inr none ↦ absurd none
       ]
 
-  reusable_is : (x : Vsn) → Among x (reusable_in u now hold format volumes) → Reusable u now hold format volumes x.0
+  reusable_is : (x : Vsn) → IsAmong x (reusable_in u now hold format volumes) → Reusable u now hold format volumes x.0
   reusable_is x among =
       let e = flat_among _ x (map.entries volumes) among in
       reusable_at e.0.0 e.0.1 x (all_among (λ e. map.get volumes e.0 ≡ Some e.1) e.0 (map.entries volumes) (entries-found paths volumes) e.1) e.2
@@ -129,7 +129,7 @@ ready_of now hold format version tip room None e past =
 record LiveOn (bitfiles : Numbered BitfileRow) (vsn : List ℕ) (l : LiveChunk) : Type 0 where
   row : BitfileRow
   is : map.get bitfiles l.bfid.0 ≡ Some row
-  among : Among l.chunk row.chunks
+  among : IsAmong l.chunk row.chunks
   on : l.chunk.vsn.0 ≡ vsn
 
 front_one : (x : LiveChunk) (o : Option LiveChunk) → (further_in_front x o ≡ x) ⊎ (o ≡ Some (further_in_front x o))
@@ -140,7 +140,7 @@ front_one x (Some y) =
       | false ↦ inr refl
     ]
 
-least_among : (xs : List LiveChunk) (l : LiveChunk) → least_placed xs ≡ Some l → Among l xs
+least_among : (xs : List LiveChunk) (l : LiveChunk) → least_placed xs ≡ Some l → IsAmong l xs
 least_among [] l e = absurd (cc)
 least_among (x ∷ xs) l e =
     let same : further_in_front x (least_placed xs) ≡ l = cc in
@@ -151,7 +151,7 @@ least_among (x ∷ xs) l e =
 
 module _ (bitfiles : Numbered BitfileRow) (vsn : List ℕ) where
   live_at : (b : ℕ) (row : BitfileRow) (l : LiveChunk) → map.get bitfiles b ≡ Some row
-      → Among l (prelude.map (live_chunk b row) (filter (is_on vsn) row.chunks)) → LiveOn bitfiles vsn l
+      → IsAmong l (prelude.map (live_chunk b row) (filter (is_on vsn) row.chunks)) → LiveOn bitfiles vsn l
   live_at b row l is among =
       let c = mapped_among (live_chunk b row) l (filter (is_on vsn) row.chunks) among in
       let f = filter_among (is_on vsn) c.0 row.chunks c.1 in
@@ -162,7 +162,7 @@ module _ (bitfiles : Numbered BitfileRow) (vsn : List ℕ) where
       let e = flat_among _ l (map.entries bitfiles) (least_among (chunks_on bitfiles vsn) l is) in
       live_at e.0.0 e.0.1 l (all_among (λ e. map.get bitfiles e.0 ≡ Some e.1) e.0 (map.entries bitfiles) (entries-found numbers bitfiles) e.1) e.2
 
-module _ (j : Joint) (kept : Kept j) (w : ℕ) (g : GroupId) (s : Side) (side : map.get j.sides g.0 ≡ Some s) where
+module _ (j : Joint) (kept : InvariantHolds j) (w : ℕ) (g : GroupId) (s : Side) (side : map.get j.sides g.0 ≡ Some s) where
   abbrev done : Option GroupHistory
   done = map.get j.history.groups g.0
 
@@ -173,9 +173,9 @@ module _ (j : Joint) (kept : Kept j) (w : ℕ) (g : GroupId) (s : Side) (side : 
 
   reuse_first_kept : (m now : ℕ) (vsns : List Vsn)
       → reusable_in (usage_of s.group) (group_time s.group now) s.group.conf.hold s.group.conf.format s.group.tables.volumes ≡ vsns
-      → CallKept j w (reuse_first g s.group m now vsns) nothing
-  reuse_first_kept m now [] is = asking_kept j kept w g s side _ nothing
-  reuse_first_kept m now (vsn ∷ vsns) is = opening_kept j kept w g s side (reuse_first g s.group m now (vsn ∷ vsns)) nothing (record {
+      → CallKept j w (reuse_first g s.group m now vsns) no_needs
+  reuse_first_kept m now [] is = asking_kept j kept w g s side _ no_needs
+  reuse_first_kept m now (vsn ∷ vsns) is = opening_kept j kept w g s side (reuse_first g s.group m now (vsn ∷ vsns)) no_needs (record {
     is = record { group = refl; unended = refl; unpaid = refl; unmarked = refl };
     of = refl;
     opens = λ all none.
@@ -183,7 +183,7 @@ module _ (j : Joint) (kept : Kept j) (w : ℕ) (g : GroupId) (s : Side) (side : 
         let conf = s.group.conf in
         let u = usage_of s.group in
         let time : ℕ = group_time s.group now in
-        let r = reusable_is u time conf.hold conf.format t.volumes vsn (subst (Among vsn) (sym is) (inl refl)) in
+        let r = reusable_is u time conf.hold conf.format t.volumes vsn (subst (IsAmong vsn) (sym is) (inl refl)) in
         let v = r.volume in
         let parts = and_parts _ _ r.may in
         let first = and_parts _ _ parts.0 in
@@ -208,7 +208,7 @@ module _ (j : Joint) (kept : Kept j) (w : ℕ) (g : GroupId) (s : Side) (side : 
         (healed_side j kept w g s side);
   })
 
-  pub reuse_next_kept : (m now : ℕ) → CallKept j w (reuse_next g s.group m now) nothing
+  pub reuse_next_kept : (m now : ℕ) → CallKept j w (reuse_next g s.group m now) no_needs
   reuse_next_kept m now =
       reuse_first_kept m now
       (reusable_in (usage_of s.group) (group_time s.group now) s.group.conf.hold s.group.conf.format s.group.tables.volumes) refl
@@ -227,16 +227,16 @@ module _ (j : Joint) (kept : Kept j) (w : ℕ) (g : GroupId) (s : Side) (side : 
 
   merge_to_kept : (merged : List Vsn) (source : Vsn) (l : LiveChunk) (job from to : ℕ) → LiveOn s.group.tables.bitfiles source.0 l
       → (o : Option Space) → destination_in (usage_of s.group) merged s.group.tables.volumes l.chunk.len ≡ o
-      → CallKept j w (of_list merged source (merge_to g s.group merged l job from to o)) nothing
+      → CallKept j w (of_list merged source (merge_to g s.group merged l job from to o)) no_needs
   merge_to_kept merged source l job from to live None is =
-      step_kept j kept w g s side (of_list merged source (merge_to g s.group merged l job from to None)) nothing (record {
+      step_kept j kept w g s side (of_list merged source (merge_to g s.group merged l job from to None)) no_needs (record {
         is = record { group = refl; unmarked = refl; unmade = refl; healed = inl refl };
         of = tt;
         ends = λ all. own;
         pays = λ all none. tt;
       })
   merge_to_kept merged source l job from to live (Some sp) is =
-      opening_kept j kept w g s side (of_list merged source (merge_to g s.group merged l job from to (Some sp))) nothing (record {
+      opening_kept j kept w g s side (of_list merged source (merge_to g s.group merged l job from to (Some sp))) no_needs (record {
         is = record { group = refl; unended = refl; unpaid = refl; unmarked = refl };
         of = refl;
         opens = λ all none.
@@ -275,9 +275,9 @@ module _ (j : Joint) (kept : Kept j) (w : ℕ) (g : GroupId) (s : Side) (side : 
       })
 
   merge_first_kept : (merged : List Vsn) (source : Vsn) (job from to : ℕ) (o : Option LiveChunk) → first_on s.group.tables.bitfiles source.0 ≡ o
-      → CallKept j w (of_list merged source (merge_first g s.group merged job from to o)) nothing
+      → CallKept j w (of_list merged source (merge_first g s.group merged job from to o)) no_needs
   merge_first_kept merged source job from to None is =
-      step_kept j kept w g s side (of_list merged source (merge_first g s.group merged job from to None)) nothing (record {
+      step_kept j kept w g s side (of_list merged source (merge_first g s.group merged job from to None)) no_needs (record {
         is = record { group = refl; unmarked = refl; unmade = refl; healed = inl refl };
         of = tt;
         ends = λ all. own;
@@ -287,5 +287,5 @@ module _ (j : Joint) (kept : Kept j) (w : ℕ) (g : GroupId) (s : Side) (side : 
       merge_to_kept merged source l job from to (live_is s.group.tables.bitfiles source.0 l is)
       (destination_in (usage_of s.group) merged s.group.tables.volumes l.chunk.len) refl
 
-  pub merge_next_kept : (merged : List Vsn) (source : Vsn) (job from to : ℕ) → CallKept j w (merge_next g s.group merged source job from to) nothing
+  pub merge_next_kept : (merged : List Vsn) (source : Vsn) (job from to : ℕ) → CallKept j w (merge_next g s.group merged source job from to) no_needs
   merge_next_kept merged source job from to = merge_first_kept merged source job from to (first_on s.group.tables.bitfiles source.0) refl

@@ -31,14 +31,14 @@ use Rattle.dm_model.specs.declared.state.Origin.TheVariants as origin
 use Rattle.dm_model.specs.declared.state.Reserved.{Reserved}
 use Rattle.dm_model.specs.declared.state.Side.{Side}
 use Rattle.dm_model.specs.declared.state.Worker.{Worker}
-use Rattle.dm_model.specs.GroupCalls.{abort, abort_needs, asking_group, drop_move, grouped, is_of_move, is_unmounted, may_unmount, mount_chunk, mount_chunk_needs, mount_chunk_of, mount_new, mount_piece, mount_piece_of, piece_at, reservation_in, unmount, unmount_needs}
-use Rattle.dm_model.specs.Plan.{Needs, Plan, nothing}
+use Rattle.dm_model.specs.GroupCalls.{abort, abort_needs, group_healing_plan, drop_move, group_quiet_plan, is_of_move, is_unmounted, may_unmount, mount_chunk, mount_chunk_needs, mount_chunk_of, mount_new, mount_piece, mount_piece_of, piece_at, reservation_in, unmount, unmount_needs}
+use Rattle.dm_model.specs.Plan.{Needs, Plan, no_needs}
 use Rattle.dm_model.specs.declared.plan.Ending.TheVariants as ending
 use Rattle.dm_model.specs.SideShare.{side_after_ending, side_without_doubt}
 use Rattle.dm_model.specs.Volumes.{epoch_of, free_drives, is_mounted}
-use Rattle.dm_invariant.specs.Among.{Among}
+use Rattle.dm_invariant.specs.Among.{IsAmong}
 use Rattle.dm_invariant.specs.Doubts.{GroupMayLandIf, GroupStepNeeds}
-use Rattle.dm_invariant.specs.Kept.{Kept, committed_in, deleted_in}
+use Rattle.dm_invariant.specs.Kept.{InvariantHolds, committed_in, deleted_in}
 use Rattle.dm_invariant.specs.Mounts.{mounted_of}
 use Rattle.dm_invariant.specs.Reservations.{ZoneInHand}
 use Rattle.dm_invariant.proofs.Options.{none_some}
@@ -80,7 +80,7 @@ mountable s others vsn same none =
 
 -- a step in doubt takes no volume on which a piece is reserved
 module _ (g : ℕ) (entries : Numbered Entry) (contents : Numbered (List ℕ)) (taken deleted : Numbered (Unit {0})) (s : Side) (n : ℕ) (r : Reserved)
-    (p : Piece) (there : map.get s.group.reservations n ≡ Some r) (among : Among p r.pieces)
+    (p : Piece) (there : map.get s.group.reservations n ≡ Some r) (among : IsAmong p r.pieces)
     (hand : ZoneInHand s.group.tables.volumes s.group.tips r.chunk p) where
   step_spares : (now : ℕ) (x : GroupStep) → MayGroupStep s.group.tables x → GroupStepNeeds g entries contents taken deleted s now x
       → Takes p.vsn.0 x → ⊥
@@ -112,7 +112,7 @@ reservation_ends s n r is free = record {
   free = λ c held there has. unmounted_copy n (map.get s.copies r.bfid.0) c held free there has;
 }
 
-module _ (j : Joint) (kept : Kept j) (w : ℕ) (g : GroupId) (s : Side) (side : map.get j.sides g.0 ≡ Some s) where
+module _ (j : Joint) (kept : InvariantHolds j) (w : ℕ) (g : GroupId) (s : Side) (side : map.get j.sides g.0 ≡ Some s) where
   abbrev done : Option GroupHistory
   done = map.get j.history.groups g.0
 
@@ -125,16 +125,16 @@ module _ (j : Joint) (kept : Kept j) (w : ℕ) (g : GroupId) (s : Side) (side : 
 
   -- ---- calls that only tell
 
-  pub quiet_kept : (a : Answer) (n : Needs) → CallKept j w (grouped g a) n
-  quiet_kept a n = step_kept j kept w g s side (grouped g a) n (record {
+  pub quiet_kept : (a : Answer) (n : Needs) → CallKept j w (group_quiet_plan g a) n
+  quiet_kept a n = step_kept j kept w g s side (group_quiet_plan g a) n (record {
     is = record { group = refl; unmarked = refl; unmade = refl; healed = inr refl };
     of = tt;
     ends = λ all. own;
     pays = λ all none. tt;
   })
 
-  pub asking_kept : (a : Answer) (n : Needs) → CallKept j w (asking_group g a) n
-  asking_kept a n = step_kept j kept w g s side (asking_group g a) n (record {
+  pub asking_kept : (a : Answer) (n : Needs) → CallKept j w (group_healing_plan g a) n
+  asking_kept a n = step_kept j kept w g s side (group_healing_plan g a) n (record {
     is = record { group = refl; unmarked = refl; unmade = refl; healed = inl refl };
     of = tt;
     ends = λ all. own;
@@ -143,8 +143,8 @@ module _ (j : Joint) (kept : Kept j) (w : ℕ) (g : GroupId) (s : Side) (side : 
 
   -- ---- mounts
 
-  pub mount_new_kept : (vsn : Vsn) (m : ℕ) → CallKept j w (mount_new g s.group vsn m) nothing
-  mount_new_kept vsn m = opening_kept j kept w g s side (mount_new g s.group vsn m) nothing (record {
+  pub mount_new_kept : (vsn : Vsn) (m : ℕ) → CallKept j w (mount_new g s.group vsn m) no_needs
+  mount_new_kept vsn m = opening_kept j kept w g s side (mount_new g s.group vsn m) no_needs (record {
     is = record { group = refl; unended = refl; unpaid = refl; unmarked = refl };
     of = refl;
     opens = λ all none.
@@ -166,9 +166,9 @@ module _ (j : Joint) (kept : Kept j) (w : ℕ) (g : GroupId) (s : Side) (side : 
   })
 
   mount_piece_at : (n k m : ℕ) (r : Reserved) → map.get s.group.reservations n ≡ Some r → (o : Option Piece) → piece_at k r.pieces ≡ o
-      → CallKept j w (mount_piece_of g s.group r k m o) nothing
-  mount_piece_at n k m r is None at = never_kept j w (mount_piece_of g s.group r k m None) nothing (λ all. let f = all.0 in cc)
-  mount_piece_at n k m r is (Some p) at = opening_kept j kept w g s side (mount_piece_of g s.group r k m (Some p)) nothing (record {
+      → CallKept j w (mount_piece_of g s.group r k m o) no_needs
+  mount_piece_at n k m r is None at = never_kept j w (mount_piece_of g s.group r k m None) no_needs (λ all. let f = all.0 in cc)
+  mount_piece_at n k m r is (Some p) at = opening_kept j kept w g s side (mount_piece_of g s.group r k m (Some p)) no_needs (record {
     is = record { group = refl; unended = refl; unpaid = refl; unmarked = refl };
     of = refl;
     opens = λ all none.
@@ -203,8 +203,8 @@ module _ (j : Joint) (kept : Kept j) (w : ℕ) (g : GroupId) (s : Side) (side : 
         own;
   })
 
-  pub mount_piece_kept : (n k m : ℕ) (o : Option Reserved) → map.get s.group.reservations n ≡ o → CallKept j w (mount_piece g s.group k m o) nothing
-  mount_piece_kept n k m None is = never_kept j w (mount_piece g s.group k m None) nothing (λ all. let f = all.0 in cc)
+  pub mount_piece_kept : (n k m : ℕ) (o : Option Reserved) → map.get s.group.reservations n ≡ o → CallKept j w (mount_piece g s.group k m o) no_needs
+  mount_piece_kept n k m None is = never_kept j w (mount_piece g s.group k m None) no_needs (λ all. let f = all.0 in cc)
   mount_piece_kept n k m (Some r) is = mount_piece_at n k m r is (piece_at k r.pieces) refl
 
   mount_chunk_at : (b : Bfid) (offset m : ℕ) (x : Option Worker) (row : BitfileRow) → map.get s.group.tables.bitfiles b.0 ≡ Some row
@@ -273,9 +273,9 @@ module _ (j : Joint) (kept : Kept j) (w : ℕ) (g : GroupId) (s : Side) (side : 
     pays = λ all none. tt;
   })
 
-  pub drop_move_kept : (job : ℕ) (o : Option Moving) → map.get s.group.moves job ≡ o → CallKept j w (drop_move g job o) nothing
-  drop_move_kept job None is = never_kept j w (drop_move g job None) nothing (λ all. let f = all.0 in cc)
-  drop_move_kept job (Some x) is = step_kept j kept w g s side (drop_move g job (Some x)) nothing (record {
+  pub drop_move_kept : (job : ℕ) (o : Option Moving) → map.get s.group.moves job ≡ o → CallKept j w (drop_move g job o) no_needs
+  drop_move_kept job None is = never_kept j w (drop_move g job None) no_needs (λ all. let f = all.0 in cc)
+  drop_move_kept job (Some x) is = step_kept j kept w g s side (drop_move g job (Some x)) no_needs (record {
     is = record { group = refl; unmarked = refl; unmade = refl; healed = inr refl };
     of = refl;
     ends = λ all.

@@ -33,9 +33,9 @@ use Rattle.dm_model.specs.GroupCalls.{chunk_in, is_chunk, is_moved, move_done, m
 use Rattle.dm_invariant.specs.Assemble.{ChunkKnown, IsSumOf, known_on}
 use Rattle.dm_invariant.specs.Catalogue.{BitfileKept, LiesBefore}
 use Rattle.dm_invariant.specs.Doubts.{PutNeeds}
-use Rattle.dm_invariant.specs.Kept.{Kept, SideKept, committed_in, deleted_in}
+use Rattle.dm_invariant.specs.Kept.{InvariantHolds, SideKept, committed_in, deleted_in}
 use Rattle.dm_invariant.specs.Moves.{MoveKept, ReadPart, ReadRight, TargetWritten, WrittenRight}
-use Rattle.dm_invariant.specs.Places.{ChunkCovers, Doubted, Has, HasTarget, Kept as KeptPlace, Live, Owner, PlacesKept, Target}
+use Rattle.dm_invariant.specs.Places.{ChunkCovers, Doubted, HasPlace, HasTarget, Reserving as KeptPlace, Live, Owner, PlacesKept, Target}
 use Rattle.dm_invariant.proofs.Options.{none_some, same_row}
 use Rattle.dm_invariant.proofs.Texts.{texts_equal}
 use Rattle.dm_landing.proofs.VolumeChunkLists.{chunk_among, joins_within}
@@ -190,7 +190,7 @@ module _ (g : ℕ) (entries : Numbered Entry) (contents : Numbered (List ℕ)) (
 
   -- who has a place while the move is journalled: another than the move, or the chunk that is moved
   record IsOther (o : Owner) (vsn : List ℕ) (place : ℕ) : Type 0 where
-    has : Has s.group.tables.bitfiles s.group.reservations s.group.moves s.group.doubt o vsn place
+    has : HasPlace s.group.tables.bitfiles s.group.reservations s.group.moves s.group.doubt o vsn place
     sure : o ≡ Target job → ⊥
 
   record IsMine (o : Owner) (vsn : List ℕ) (place : ℕ) : Type 0 where
@@ -202,7 +202,7 @@ module _ (g : ℕ) (entries : Numbered Entry) (contents : Numbered (List ℕ)) (
     moving_it = Some (record { time = time; step = step.Move x.bfid x.from goes })
 
     had : (o : Owner) (vsn : List ℕ) (place : ℕ)
-        → Has s.group.tables.bitfiles s.group.reservations (map.remove s.group.moves job) moving_it o vsn place
+        → HasPlace s.group.tables.bitfiles s.group.reservations (map.remove s.group.moves job) moving_it o vsn place
         → IsOther o vsn place ⊎ IsMine o vsn place
     had (Live b offset) vsn place h = inl (record { has = h; sure = λ e. cc })
     had (KeptPlace q offset) vsn place h = inl (record { has = h; sure = λ e. cc })
@@ -327,7 +327,7 @@ not_false : (b : Bool) → not b ≡ false → b ≡ true
 not_false true e = refl
 not_false false e = cc
 
-module _ (j : Joint) (kept : Kept j) (w : ℕ) (g : GroupId) (s : Side) (side : map.get j.sides g.0 ≡ Some s) where
+module _ (j : Joint) (kept : InvariantHolds j) (w : ℕ) (g : GroupId) (s : Side) (side : map.get j.sides g.0 ≡ Some s) where
   abbrev done : Option GroupHistory
   done = map.get j.history.groups g.0
 

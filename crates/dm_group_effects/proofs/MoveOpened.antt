@@ -33,12 +33,12 @@ use Rattle.dm_model.specs.declared.state.Side.{Side}
 use Rattle.dm_model.specs.GroupShare.{tip_behind_moved}
 use Rattle.dm_model.specs.SideShare.{is_bound, new_mount, side_after_opening, source_of, target_of}
 use Rattle.dm_model.specs.Volumes.{usage_of}
-use Rattle.dm_invariant.specs.Among.{Among}
+use Rattle.dm_invariant.specs.Among.{IsAmong}
 use Rattle.dm_invariant.specs.Kept.{SideKept}
 use Rattle.dm_invariant.specs.Mounts.{MayRead, OriginKept, ReadsChunk, mounted_of}
 use Rattle.dm_invariant.specs.Moves.{IsMoved, MoveKept}
 use Rattle.dm_invariant.specs.OnceLive.{MountOnce, OnceLive}
-use Rattle.dm_invariant.specs.Places.{Doubted, Has, HasTarget, Kept, Live, Owner, Target, TargetCovers}
+use Rattle.dm_invariant.specs.Places.{Doubted, HasPlace, HasTarget, Reserving, Live, Owner, Target, TargetCovers}
 use Rattle.dm_invariant.proofs.LookUps.{beside_free}
 use Rattle.dm_effects.proofs.MountEnded.{move_left, reuse_left}
 use Rattle.dm_effects.proofs.MountOpened.{apart_more, drive_taken, other_number, same_mounts_more}
@@ -51,7 +51,7 @@ use Rattle.dm_group_effects.proofs.TipsRisen.{TipsRise, side_tips_risen}
 -- ---- a chunk that is live
 
 -- each chunk of a list that joins has bytes
-pub chunk_some : (from to : ℕ) (cs : List Chunk) (c : Chunk) → Joins from cs to → Among c cs → 0 < c.len
+pub chunk_some : (from to : ℕ) (cs : List Chunk) (c : Chunk) → Joins from cs to → IsAmong c cs → 0 < c.len
 chunk_some from to [] c joins among = absurd among
 chunk_some from to (d ∷ ds) c joins (inl same) = subst (λ (x : Chunk). 0 < x.len) (sym same) joins.1
 chunk_some from to (d ∷ ds) c joins (inr after) = chunk_some (from + d.len) to ds c joins.2 after
@@ -59,7 +59,7 @@ chunk_some from to (d ∷ ds) c joins (inr after) = chunk_some (from + d.len) to
 -- a live chunk is one that was once live, under the epoch of its volume
 pub live_once : (entries : Numbered Entry) (contents : Numbered (List ℕ)) (taken : Numbered (Unit {0})) (requests : Numbered OpenRequest)
     (g : ℕ) (committed deleted : Numbered (Unit {0})) (s : Side) (epoch b : ℕ) (row : BitfileRow) (c : Chunk)
-    → map.get s.group.tables.bitfiles b ≡ Some row → Among c row.chunks
+    → map.get s.group.tables.bitfiles b ≡ Some row → IsAmong c row.chunks
     → SideKept entries contents taken requests g committed deleted s
     → OnceLive contents s.group.tables.volumes s.images s.group.reservations s.group.moves epoch b c
 live_once entries contents taken requests g committed deleted s epoch b row c is among k =
@@ -77,7 +77,7 @@ live_once entries contents taken requests g committed deleted s epoch b row c is
         known = file.known c among;
         right = file.sums c among;
         beside_kept = λ n offset place covers has.
-            let e = k.places (Live b c.offset) (Kept n offset) c.vsn.0 place
+            let e = k.places (Live b c.offset) (Reserving n offset) c.vsn.0 place
             (record { row = row; is = is; chunk = c; among = among; at = refl; covers = covers }) has in cc;
         beside_targets = λ job place covers has.
             let e = k.places (Live b c.offset) (Target job) c.vsn.0 place
@@ -104,7 +104,7 @@ bound_at faithful (Some w) v is first =
 -- a live chunk has bytes; and where it has no sum, it stands on a volume whose reads give what is known
 pub live_reads : (entries : Numbered Entry) (contents : Numbered (List ℕ)) (taken : Numbered (Unit {0})) (requests : Numbered OpenRequest)
     (g : ℕ) (committed deleted : Numbered (Unit {0})) (s : Side) (b : ℕ) (row : BitfileRow) (c : Chunk)
-    → map.get s.group.tables.bitfiles b ≡ Some row → Among c row.chunks
+    → map.get s.group.tables.bitfiles b ≡ Some row → IsAmong c row.chunks
     → SideKept entries contents taken requests g committed deleted s
     → ReadsChunk c (is_bound s.faithful (map.get s.group.tables.volumes c.vsn.0))
 live_reads entries contents taken requests g committed deleted s b row c is among k =
@@ -133,7 +133,7 @@ pub record MoveOpens (s : Side) (job source_epoch target_epoch : ℕ) (x : Movin
   pub drives : suc (suc (map.len s.group.mounts)) ≤ s.group.conf.drives
   pub row : BitfileRow
   pub is : map.get s.group.tables.bitfiles x.bfid.0 ≡ Some row
-  pub among : Among x.from row.chunks
+  pub among : IsAmong x.from row.chunks
   pub zone : NewZone (usage_of s.group) s.group.tables.volumes x.to.vsn.0 x.version x.to.zone (x.to.zone + weight x.version x.to.len)
   pub moved : IsMoved x.version x.from x.to
   pub settled : s.group.doubt ≡ None
@@ -161,10 +161,10 @@ target_split moves job x q vsn place h =
 
 split : (bitfiles : Numbered BitfileRow) (reservations : Numbered Reserved) (moves : Numbered Moving) (doubt : Option GroupRecord) (job : ℕ)
     (x : Moving) (o : Owner) (vsn : List ℕ) (place : ℕ)
-    → Has bitfiles reservations (map.insert moves job x) doubt o vsn place
-    → HasMoved job x o vsn place ⊎ Has bitfiles reservations moves doubt o vsn place
+    → HasPlace bitfiles reservations (map.insert moves job x) doubt o vsn place
+    → HasMoved job x o vsn place ⊎ HasPlace bitfiles reservations moves doubt o vsn place
 split bitfiles reservations moves doubt job x (Live b offset) vsn place h = inr h
-split bitfiles reservations moves doubt job x (Kept n offset) vsn place h = inr h
+split bitfiles reservations moves doubt job x (Reserving n offset) vsn place h = inr h
 split bitfiles reservations moves doubt job x (Target q) vsn place h = target_split moves job x q vsn place h
 split bitfiles reservations moves doubt job x (Doubted offset) vsn place h = inr h
 
@@ -359,8 +359,8 @@ side_move_opened entries contents taken requests g committed deleted s h job sou
           let was = risen.reuses q y at in
           reuse_left conf.hold t.time.0 t.volumes new s.mounts both q y was (stays q was.mount was.is);
       places = places_more t.volumes u.tips (HasMoved job x)
-          (Has t.bitfiles s.group.reservations s.group.moves s.group.doubt)
-          (Has t.bitfiles s.group.reservations more s.group.doubt)
+          (HasPlace t.bitfiles s.group.reservations s.group.moves s.group.doubt)
+          (HasPlace t.bitfiles s.group.reservations more s.group.doubt)
           (split t.bitfiles s.group.reservations s.group.moves s.group.doubt job x)
           (one_moved u t.volumes job x z)
           (moved_beyond u t.volumes job x z)

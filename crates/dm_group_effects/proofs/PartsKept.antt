@@ -27,11 +27,11 @@ use Rattle.dm_model.specs.declared.state.GroupHistory.{GroupHistory}
 use Rattle.dm_model.specs.declared.state.History.{History}
 use Rattle.dm_model.specs.declared.state.Joint.{Joint}
 use Rattle.dm_model.specs.declared.state.Side.{Side}
-use Rattle.dm_model.specs.Effects.{after_ending, after_failed_mark, after_healing, after_mark, after_opening, after_payload, doubting, group_history_or, history_after_group_step, with_committed, with_deleted}
+use Rattle.dm_model.specs.Effects.{after_ending, after_failed_mark, after_healing, after_mark, after_opening, after_payload, joint_with_doubt, group_history_or, history_after_group_step, with_committed, with_deleted}
 use Rattle.dm_model.specs.SideShare.{side_after_ending, side_after_failed_mark, side_after_mark, side_after_opening, side_after_payload, side_doubting, side_without_doubt}
 use Rattle.dm_model.proofs.Shares.{EndsOf, MarksOf, OpensOf}
 use Rattle.dm_invariant.specs.Doubts.{DoubtPuts, GroupMayLandIf, GroupStepNeeds, NotInGroup, PutsBitfile}
-use Rattle.dm_invariant.specs.Kept.{Kept, SideKept, committed_in, deleted_in}
+use Rattle.dm_invariant.specs.Kept.{InvariantHolds, SideKept, committed_in, deleted_in}
 use Rattle.dm_invariant.specs.Places.{PlacesKept}
 use Rattle.dm_invariant.proofs.LookUps.{still_there}
 use Rattle.dm_invariant.proofs.Options.{mapped_value, there_as}
@@ -142,7 +142,7 @@ pub record Deletes (taken : Numbered (Unit {0})) (s : Side) (b : ℕ) : Type 0 w
   pub took : IsSome (map.get taken b)
   pub settled : s.group.doubt ≡ None
 
-module _ (j : Joint) (kept : Kept j) (g : GroupId) (s : Side) (side : map.get j.sides g.0 ≡ Some s) where
+module _ (j : Joint) (kept : InvariantHolds j) (g : GroupId) (s : Side) (side : map.get j.sides g.0 ≡ Some s) where
   abbrev done : Option GroupHistory
   done = map.get j.history.groups g.0
 
@@ -150,33 +150,33 @@ module _ (j : Joint) (kept : Kept j) (g : GroupId) (s : Side) (side : map.get j.
   side_kept = kept.sides g.0 s side
 
   one_changes : (f : Side → Side) → SeenAlike j.daemon.tables.entries s (f s) → KeptAs j g.0 done (f s)
-      → Kept (with_sides (adjust j.sides g.0 f) j.history.groups j)
+      → InvariantHolds (with_sides (adjust j.sides g.0 f) j.history.groups j)
   one_changes f alike keeps =
       side_changes j kept g.0 s (f s) (adjust j.sides g.0 f) j.history.groups side (adjusted_row numbers j.sides g.0 f s side)
       (λ q differ. adjusted-beside numbers j.sides g.0 f q differ) (λ q differ. refl) alike keeps
 
-  pub ending_keeps : (w : ℕ) (e : Ending) → EndsOf g e → KeptAs j g.0 done (side_after_ending e s) → Kept (after_ending w e j)
+  pub ending_keeps : (w : ℕ) (e : Ending) → EndsOf g e → KeptAs j g.0 done (side_after_ending e s) → InvariantHolds (after_ending w e j)
   ending_keeps w ending.Nothing of keeps = kept
   ending_keeps w (ending.Put k b groups) of keeps = absurd of
   ending_keeps w (ending.Recall k) of keeps = absurd of
   ending_keeps w (ending.Reservation h n b) of keeps =
-      subst (λ (x : GroupId). Kept (after_ending w (ending.Reservation x n b) j)) (sym of)
+      subst (λ (x : GroupId). InvariantHolds (after_ending w (ending.Reservation x n b) j)) (sym of)
       (one_changes (side_after_ending (ending.Reservation g n b)) (alike_still j.daemon.tables.entries s _ refl refl) keeps)
   ending_keeps w (ending.Mount h m) of keeps =
-      subst (λ (x : GroupId). Kept (after_ending w (ending.Mount x m) j)) (sym of)
+      subst (λ (x : GroupId). InvariantHolds (after_ending w (ending.Mount x m) j)) (sym of)
       (one_changes (side_after_ending (ending.Mount g m)) (alike_still j.daemon.tables.entries s _ refl refl) keeps)
   ending_keeps w (ending.Move h job source target) of keeps =
-      subst (λ (x : GroupId). Kept (after_ending w (ending.Move x job source target) j)) (sym of)
+      subst (λ (x : GroupId). InvariantHolds (after_ending w (ending.Move x job source target) j)) (sym of)
       (one_changes (side_after_ending (ending.Move g job source target)) (alike_still j.daemon.tables.entries s _ refl refl) keeps)
 
-  pub healing_keeps : (heals : Bool) → Kept (after_healing heals (component.Group g) j)
+  pub healing_keeps : (heals : Bool) → InvariantHolds (after_healing heals (component.Group g) j)
   healing_keeps false = kept
   healing_keeps true =
       one_changes (side_without_doubt true) (alike_settled j.daemon.tables.entries s _ refl refl)
       (side_healed j.daemon.tables.entries j.history.contents j.history.taken j.daemon.requests g.0 (committed_in done) (deleted_in done) true s
       side_kept)
 
-  pub landing_keeps : (r : GroupRecord) → Pays j g.0 s r → Kept (after_payload (Some (payload.Group g r)) (after_healing true (component.Group g) j))
+  pub landing_keeps : (r : GroupRecord) → Pays j g.0 s r → InvariantHolds (after_payload (Some (payload.Group g r)) (after_healing true (component.Group g) j))
   landing_keeps r pays =
       let t = j.daemon.tables in
       let h = j.history in
@@ -200,7 +200,7 @@ module _ (j : Joint) (kept : Kept j) (g : GroupId) (s : Side) (side : map.get j.
           lasting = λ puts. puts;
         };
       } in
-      subst (λ (y : History). Kept (record j { sides = sides; history = y })) (sym d.is)
+      subst (λ (y : History). InvariantHolds (record j { sides = sides; history = y })) (sym d.is)
       (side_changes j kept g.0 s x sides d.groups side
       (adjusted_row numbers middle g.0 (side_after_payload (Some (payload.Group g r))) healed
       (adjusted_row numbers j.sides g.0 (side_without_doubt true) s side))
@@ -208,7 +208,7 @@ module _ (j : Joint) (kept : Kept j) (g : GroupId) (s : Side) (side : map.get j.
       ∙ adjusted-beside numbers j.sides g.0 (side_without_doubt true) q differ)
       d.others alike keeps)
 
-  pub doubting_keeps : (r : GroupRecord) → Pays j g.0 s r → Kept (doubting (Some (payload.Group g r)) j)
+  pub doubting_keeps : (r : GroupRecord) → Pays j g.0 s r → InvariantHolds (joint_with_doubt (Some (payload.Group g r)) j)
   doubting_keeps r pays =
       one_changes (side_doubting (Some (payload.Group g r)))
       (record {
@@ -229,43 +229,43 @@ module _ (j : Joint) (kept : Kept j) (g : GroupId) (s : Side) (side : map.get j.
   }
 
   -- what is left on a volume
-  pub mark_keeps : (w : ℕ) (x : Mark) → MarksOf g x → IsOfSide x → KeptAs j g.0 done (side_after_mark x s) → Kept (after_mark w x j)
+  pub mark_keeps : (w : ℕ) (x : Mark) → MarksOf g x → IsOfSide x → KeptAs j g.0 done (side_after_mark x s) → InvariantHolds (after_mark w x j)
   mark_keeps w mark.Nothing of sided keeps = kept
   mark_keeps w (mark.Zone h vsn place zone b index epoch) of sided keeps =
-      subst (λ (y : GroupId). Kept (after_mark w (mark.Zone y vsn place zone b index epoch) j)) (sym of)
+      subst (λ (y : GroupId). InvariantHolds (after_mark w (mark.Zone y vsn place zone b index epoch) j)) (sym of)
       (one_changes (side_after_mark (mark.Zone g vsn place zone b index epoch)) (alike_still j.daemon.tables.entries s _ refl refl) keeps)
   mark_keeps w (mark.Target h vsn m place zone) of sided keeps =
-      subst (λ (y : GroupId). Kept (after_mark w (mark.Target y vsn m place zone) j)) (sym of)
+      subst (λ (y : GroupId). InvariantHolds (after_mark w (mark.Target y vsn m place zone) j)) (sym of)
       (one_changes (side_after_mark (mark.Target g vsn m place zone)) (alike_still j.daemon.tables.entries s _ refl refl) keeps)
   mark_keeps w (mark.Label h vsn m epoch version text) of sided keeps =
-      subst (λ (y : GroupId). Kept (after_mark w (mark.Label y vsn m epoch version text) j)) (sym of)
+      subst (λ (y : GroupId). InvariantHolds (after_mark w (mark.Label y vsn m epoch version text) j)) (sym of)
       (one_changes (side_after_mark (mark.Label g vsn m epoch version text)) (alike_still j.daemon.tables.entries s _ refl refl) keeps)
   mark_keeps w (mark.Read h b offset bytes) of sided keeps = absurd sided
   mark_keeps w (mark.Source h m bytes) of sided keeps =
-      subst (λ (y : GroupId). Kept (after_mark w (mark.Source y m bytes) j)) (sym of)
+      subst (λ (y : GroupId). InvariantHolds (after_mark w (mark.Source y m bytes) j)) (sym of)
       (one_changes (side_after_mark (mark.Source g m bytes)) (alike_still j.daemon.tables.entries s _ refl refl) keeps)
   mark_keeps w (mark.Deleted h b) of sided keeps = absurd sided
 
   -- also where the write failed
-  pub failed_mark_keeps : (x : Mark) → MarksOf g x → KeptAs j g.0 done (side_after_failed_mark x s) → Kept (after_failed_mark x j)
+  pub failed_mark_keeps : (x : Mark) → MarksOf g x → KeptAs j g.0 done (side_after_failed_mark x s) → InvariantHolds (after_failed_mark x j)
   failed_mark_keeps mark.Nothing of keeps = kept
   failed_mark_keeps (mark.Zone h vsn place zone b index epoch) of keeps =
-      subst (λ (y : GroupId). Kept (after_failed_mark (mark.Zone y vsn place zone b index epoch) j)) (sym of)
+      subst (λ (y : GroupId). InvariantHolds (after_failed_mark (mark.Zone y vsn place zone b index epoch) j)) (sym of)
       (one_changes (side_after_failed_mark (mark.Zone g vsn place zone b index epoch)) (alike_still j.daemon.tables.entries s _ refl refl) keeps)
   failed_mark_keeps (mark.Target h vsn m place zone) of keeps =
-      subst (λ (y : GroupId). Kept (after_failed_mark (mark.Target y vsn m place zone) j)) (sym of)
+      subst (λ (y : GroupId). InvariantHolds (after_failed_mark (mark.Target y vsn m place zone) j)) (sym of)
       (one_changes (side_after_failed_mark (mark.Target g vsn m place zone)) (alike_still j.daemon.tables.entries s _ refl refl) keeps)
   failed_mark_keeps (mark.Label h vsn m epoch version text) of keeps =
-      subst (λ (y : GroupId). Kept (after_failed_mark (mark.Label y vsn m epoch version text) j)) (sym of)
+      subst (λ (y : GroupId). InvariantHolds (after_failed_mark (mark.Label y vsn m epoch version text) j)) (sym of)
       (one_changes (side_after_failed_mark (mark.Label g vsn m epoch version text)) (alike_still j.daemon.tables.entries s _ refl refl) keeps)
   failed_mark_keeps (mark.Read h b offset bytes) of keeps = kept
   failed_mark_keeps (mark.Source h m bytes) of keeps =
-      subst (λ (y : GroupId). Kept (after_failed_mark (mark.Source y m bytes) j)) (sym of)
+      subst (λ (y : GroupId). InvariantHolds (after_failed_mark (mark.Source y m bytes) j)) (sym of)
       (one_changes (side_after_failed_mark (mark.Source g m bytes)) (alike_still j.daemon.tables.entries s _ refl refl) keeps)
   failed_mark_keeps (mark.Deleted h b) of keeps = kept
 
   -- the group was told to delete the bitfile
-  pub deleted_keeps : (w : ℕ) (b : Bfid) → Deletes j.history.taken s b.0 → Kept (after_mark w (mark.Deleted g b) j)
+  pub deleted_keeps : (w : ℕ) (b : Bfid) → Deletes j.history.taken s b.0 → InvariantHolds (after_mark w (mark.Deleted g b) j)
   deleted_keeps w b deletes =
       let t = j.daemon.tables in
       let h = j.history in
@@ -302,19 +302,19 @@ module _ (j : Joint) (kept : Kept j) (g : GroupId) (s : Side) (side : map.get j.
       (alike_still t.entries s s refl refl) both
 
   -- what is made
-  pub opening_keeps : (w : ℕ) (o : Opening) → OpensOf g o → KeptAs j g.0 done (side_after_opening o s) → Kept (after_opening w o j)
+  pub opening_keeps : (w : ℕ) (o : Opening) → OpensOf g o → KeptAs j g.0 done (side_after_opening o s) → InvariantHolds (after_opening w o j)
   opening_keeps w opening.Nothing of keeps = kept
   opening_keeps w (opening.Put k r len groups) of keeps = absurd of
   opening_keeps w (opening.Recall k r recall) of keeps = absurd of
   opening_keeps w (opening.Reservation h n r) of keeps =
-      subst (λ (y : GroupId). Kept (after_opening w (opening.Reservation y n r) j)) (sym of)
+      subst (λ (y : GroupId). InvariantHolds (after_opening w (opening.Reservation y n r) j)) (sym of)
       (one_changes (side_after_opening (opening.Reservation g n r)) (alike_still j.daemon.tables.entries s _ refl refl) keeps)
   opening_keeps w (opening.Mount h m vsn epoch made) of keeps =
-      subst (λ (y : GroupId). Kept (after_opening w (opening.Mount y m vsn epoch made) j)) (sym of)
+      subst (λ (y : GroupId). InvariantHolds (after_opening w (opening.Mount y m vsn epoch made) j)) (sym of)
       (one_changes (side_after_opening (opening.Mount g m vsn epoch made)) (alike_still j.daemon.tables.entries s _ refl refl) keeps)
   opening_keeps w (opening.Move h job moving source_epoch target_epoch) of keeps =
-      subst (λ (y : GroupId). Kept (after_opening w (opening.Move y job moving source_epoch target_epoch) j)) (sym of)
+      subst (λ (y : GroupId). InvariantHolds (after_opening w (opening.Move y job moving source_epoch target_epoch) j)) (sym of)
       (one_changes (side_after_opening (opening.Move g job moving source_epoch target_epoch)) (alike_still j.daemon.tables.entries s _ refl refl) keeps)
   opening_keeps w (opening.Reuse h m epoch reusing reading) of keeps =
-      subst (λ (y : GroupId). Kept (after_opening w (opening.Reuse y m epoch reusing reading) j)) (sym of)
+      subst (λ (y : GroupId). InvariantHolds (after_opening w (opening.Reuse y m epoch reusing reading) j)) (sym of)
       (one_changes (side_after_opening (opening.Reuse g m epoch reusing reading)) (alike_still j.daemon.tables.entries s _ refl refl) keeps)

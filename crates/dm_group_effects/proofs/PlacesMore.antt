@@ -16,7 +16,7 @@ use Rattle.dm_model.specs.declared.state.Side.{Side}
 use Rattle.dm_invariant.specs.Catalogue.{LiesBefore}
 use Rattle.dm_invariant.specs.Kept.{SideKept}
 use Rattle.dm_invariant.specs.Moves.{TargetInHand}
-use Rattle.dm_invariant.specs.Places.{ChunkCovers, Doubted, Has, IsDoubted, Kept, Live, Owner, PieceCovers, Target, TargetCovers}
+use Rattle.dm_invariant.specs.Places.{ChunkCovers, Doubted, HasPlace, IsDoubted, Reserving, Live, Owner, PieceCovers, Target, TargetCovers}
 use Rattle.dm_invariant.specs.Reservations.{ZoneInHand}
 use Rattle.dm_invariant.specs.Volumes.{VolumeKept}
 use Rattle.dm_group_effects.proofs.TipsMoved.{NewZone}
@@ -67,12 +67,12 @@ pub owner_before : (entries : Numbered Entry) (contents : Numbered (List ℕ)) (
     (g : ℕ) (committed deleted : Numbered (Unit {0})) (s : Side) → s.group.doubt ≡ None
     → SideKept entries contents taken requests g committed deleted s
     → (o : Owner) (vsn : List ℕ) (place : ℕ)
-    → Has s.group.tables.bitfiles s.group.reservations s.group.moves s.group.doubt o vsn place
+    → HasPlace s.group.tables.bitfiles s.group.reservations s.group.moves s.group.doubt o vsn place
     → BeforeTip s.group.tables.volumes s.group.tips vsn place
 owner_before entries contents taken requests g committed deleted s settled k (Live b offset) vsn place has =
     chunk_before s.group.conf s.group.tables.time.0 s.group.tables.volumes s.group.tips has.chunk vsn place k.volumes.volume
     ((k.catalogue.bitfile b has.row has.is).lies has.chunk has.among) has.covers
-owner_before entries contents taken requests g committed deleted s settled k (Kept n offset) vsn place has =
+owner_before entries contents taken requests g committed deleted s settled k (Reserving n offset) vsn place has =
     zone_before s.group.tables.volumes s.group.tips has.reserved.chunk has.piece vsn place
     ((k.reservations.reservation n has.reserved has.is).zones has.piece has.among) has.covers
 owner_before entries contents taken requests g committed deleted s settled k (Target job) vsn place has =

@@ -17,7 +17,7 @@ use Rattle.dm_model.specs.declared.state.Recall.{Recall}
 use Rattle.dm_model.specs.declared.state.Worker.{Worker}
 use Rattle.dm_model.specs.DaemonCalls.{reads_or}
 use Rattle.dm_model.specs.Effects.{after_mark, with_read, with_read_of, worker_with_read}
-use Rattle.dm_invariant.specs.Kept.{Kept}
+use Rattle.dm_invariant.specs.Kept.{InvariantHolds}
 use Rattle.dm_invariant.specs.Requests.{PartAt, RecallKept, RecallsKept}
 
 -- bytes that are read at an offset are a part of the bitfile's content
@@ -95,8 +95,8 @@ recalls_read_noted workers requests entries contents kept w g b offset bytes par
 }
 
 -- a read that counts keeps the state
-pub read_keeps : (j : Joint) → Kept j → (w : ℕ) (g : GroupId) (b : Bfid) (offset : ℕ) (bytes : List ℕ)
-    → ReadFits j.history.contents b.0 offset bytes → Kept (after_mark w (mark.Read g b offset bytes) j)
+pub read_keeps : (j : Joint) → InvariantHolds j → (w : ℕ) (g : GroupId) (b : Bfid) (offset : ℕ) (bytes : List ℕ)
+    → ReadFits j.history.contents b.0 offset bytes → InvariantHolds (after_mark w (mark.Read g b offset bytes) j)
 read_keeps j kept w g b offset bytes part = record {
   files = kept.files;
   dumps = kept.dumps;

@@ -34,11 +34,11 @@ use Rattle.dm_model.specs.declared.state.Side.{Side}
 use Rattle.dm_model.specs.GroupShare.{tips_behind}
 use Rattle.dm_model.specs.SideShare.{side_after_opening, with_reservation}
 use Rattle.dm_model.specs.Volumes.{usage_of}
-use Rattle.dm_invariant.specs.Among.{Among}
+use Rattle.dm_invariant.specs.Among.{IsAmong}
 use Rattle.dm_invariant.specs.Kept.{SideKept}
 use Rattle.dm_invariant.specs.Mounts.{OriginKept}
 use Rattle.dm_invariant.specs.OnceLive.{MountOnce, OnceLive}
-use Rattle.dm_invariant.specs.Places.{Doubted, Has, HasKept, Kept, Live, Owner, PieceCovers, Target}
+use Rattle.dm_invariant.specs.Places.{Doubted, HasPlace, HasReserving, Reserving, Live, Owner, PieceCovers, Target}
 use Rattle.dm_invariant.specs.Reservations.{CopyKept, ReservationKept, ZoneInHand}
 use Rattle.dm_invariant.specs.Volumes.{VolumeKept}
 use Rattle.dm_invariant.proofs.LookUps.{beside_free}
@@ -179,26 +179,26 @@ module _ (reservations : Numbered Reserved) (copies : Numbered CopyState) (n : �
 -- a piece of the reservation has a place
 record HasPiece (n : ℕ) (r : Reserved) (o : Owner) (vsn : List ℕ) (place : ℕ) : Type 0 where
   offset : ℕ
-  owner : o ≡ Kept n offset
+  owner : o ≡ Reserving n offset
   piece : Piece
-  among : Among piece r.pieces
+  among : IsAmong piece r.pieces
   at : piece.offset ≡ offset
   covers : PieceCovers r.chunk piece vsn place
 
-has_piece : (n : ℕ) (r x : Reserved) (q offset : ℕ) (vsn : List ℕ) (place : ℕ) (p : Piece) → q ≡ n → x ≡ r → Among p x.pieces → p.offset ≡ offset
-    → PieceCovers x.chunk p vsn place → HasPiece n r (Kept q offset) vsn place
+has_piece : (n : ℕ) (r x : Reserved) (q offset : ℕ) (vsn : List ℕ) (place : ℕ) (p : Piece) → q ≡ n → x ≡ r → IsAmong p x.pieces → p.offset ≡ offset
+    → PieceCovers x.chunk p vsn place → HasPiece n r (Reserving q offset) vsn place
 has_piece n r x q offset vsn place p number same a at covers = record {
   offset = offset;
-  owner = ap (λ i. Kept i offset) number;
+  owner = ap (λ i. Reserving i offset) number;
   piece = p;
-  among = subst (λ (y : Reserved). Among p y.pieces) same a;
+  among = subst (λ (y : Reserved). IsAmong p y.pieces) same a;
   at = at;
   covers = subst (λ (y : Reserved). PieceCovers y.chunk p vsn place) same covers;
 }
 
 kept_split : (reservations : Numbered Reserved) (n : ℕ) (r : Reserved) (q offset : ℕ) (vsn : List ℕ) (place : ℕ)
-    → HasKept (map.insert reservations n r) q offset vsn place
-    → HasPiece n r (Kept q offset) vsn place ⊎ HasKept reservations q offset vsn place
+    → HasReserving (map.insert reservations n r) q offset vsn place
+    → HasPiece n r (Reserving q offset) vsn place ⊎ HasReserving reservations q offset vsn place
 kept_split reservations n r q offset vsn place h =
     elim (inserted numbers reservations n r q h.reserved h.is) [
       | inl at ↦ inl (has_piece n r h.reserved q offset vsn place h.piece at.0 at.1 h.among h.at h.covers)
@@ -207,10 +207,10 @@ kept_split reservations n r q offset vsn place h =
 
 split : (bitfiles : Numbered BitfileRow) (reservations : Numbered Reserved) (moves : Numbered Moving) (doubt : Option GroupRecord) (n : ℕ)
     (r : Reserved) (o : Owner) (vsn : List ℕ) (place : ℕ)
-    → Has bitfiles (map.insert reservations n r) moves doubt o vsn place
-    → HasPiece n r o vsn place ⊎ Has bitfiles reservations moves doubt o vsn place
+    → HasPlace bitfiles (map.insert reservations n r) moves doubt o vsn place
+    → HasPiece n r o vsn place ⊎ HasPlace bitfiles reservations moves doubt o vsn place
 split bitfiles reservations moves doubt n r (Live b offset) vsn place h = inr h
-split bitfiles reservations moves doubt n r (Kept q offset) vsn place h = kept_split reservations n r q offset vsn place h
+split bitfiles reservations moves doubt n r (Reserving q offset) vsn place h = kept_split reservations n r q offset vsn place h
 split bitfiles reservations moves doubt n r (Target job) vsn place h = inr h
 split bitfiles reservations moves doubt n r (Doubted offset) vsn place h = inr h
 
@@ -227,7 +227,7 @@ module _ (u : Usage) (volumes : Named VolumeRow) (reuses : Numbered Reusing) (ne
   one_piece : (o p : Owner) (vsn : List ℕ) (place : ℕ) → HasPiece n made o vsn place → HasPiece n made p vsn place → o ≡ p
   one_piece o p vsn place h i =
       h.owner
-      ∙ ap (λ offset. Kept n offset)
+      ∙ ap (λ offset. Reserving n offset)
       (sym h.at ∙ ap (λ (x : Piece). x.offset) (laid.apart h.piece i.piece h.among i.among (h.covers.same ∙ sym i.covers.same)) ∙ i.at)
       ∙ sym i.owner
 
@@ -251,7 +251,7 @@ module _ (u : Usage) (volumes : Named VolumeRow) (reuses : Numbered Reusing) (ne
         | inl piece ↦
             let within = s.within in
             let high = covers.high in
-            piece_beyond (Kept i offset) c.vsn.0 place piece (ends c.vsn.0 k.volume place k.is (omega (arith, within, high)))
+            piece_beyond (Reserving i offset) c.vsn.0 place piece (ends c.vsn.0 k.volume place k.is (omega (arith, within, high)))
         | inr was ↦ s.beside_kept i offset place covers was
       ];
       beside_targets = s.beside_targets;
@@ -273,7 +273,7 @@ module _ (u : Usage) (volumes : Named VolumeRow) (reuses : Numbered Reusing) (ne
   mount_once_more contents images reservations moves epoch (origin.Reuse next_epoch version reading) ends k = k
 
   -- the zone of a new piece is in hand
-  zone_new : (conf : GroupConf) (now : ℕ) (p : Piece) → EachRow volumes (VolumeKept conf u.tips now) → Among p ps → ZoneInHand volumes new u.chunk p
+  zone_new : (conf : GroupConf) (now : ℕ) (p : Piece) → EachRow volumes (VolumeKept conf u.tips now) → IsAmong p ps → ZoneInHand volumes new u.chunk p
   zone_new conf now p kept a =
       let z = laid.zones p a in
       let v = kept p.vsn.0 z.volume z.is in
@@ -352,8 +352,8 @@ side_reservation_opened entries contents taken requests g committed deleted s h 
       moves = risen.moves;
       reuses = risen.reuses;
       places = places_more t.volumes u.tips (HasPiece n r)
-          (Has t.bitfiles s.group.reservations s.group.moves s.group.doubt)
-          (Has t.bitfiles more s.group.moves s.group.doubt)
+          (HasPlace t.bitfiles s.group.reservations s.group.moves s.group.doubt)
+          (HasPlace t.bitfiles more s.group.moves s.group.doubt)
           (split t.bitfiles s.group.reservations s.group.moves s.group.doubt n r)
           (one_piece u t.volumes s.group.reuses new n b len ps laid)
           (piece_beyond u t.volumes s.group.reuses new n b len ps laid)

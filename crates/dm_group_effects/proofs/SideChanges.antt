@@ -16,7 +16,7 @@ use Rattle.dm_model.specs.declared.state.Joint.{Joint}
 use Rattle.dm_model.specs.declared.state.OpenRequest.{OpenRequest}
 use Rattle.dm_model.specs.declared.state.Side.{Side}
 use Rattle.dm_invariant.specs.Doubts.{DoubtPuts, InGroup, MayLandIf, NotInGroup, StepNeeds}
-use Rattle.dm_invariant.specs.Kept.{Kept, SideKept, committed_in, deleted_in}
+use Rattle.dm_invariant.specs.Kept.{InvariantHolds, SideKept, committed_in, deleted_in}
 use Rattle.dm_invariant.proofs.Options.{has_value, same_row}
 
 -- what a step of the daemon in doubt looks at in a group: a bitfile that isn't being dropped stays, and one that is being
@@ -127,11 +127,11 @@ abbrev pub KeptAs : Joint → ℕ → Option GroupHistory → Side → Type 0
 KeptAs j g h x =
     SideKept j.daemon.tables.entries j.history.contents j.history.taken j.daemon.requests g (committed_in h) (deleted_in h) x
 
-pub side_changes : (j : Joint) → Kept j → (g : ℕ) (s x : Side) (sides : Numbered Side) (groups : Numbered GroupHistory)
+pub side_changes : (j : Joint) → InvariantHolds j → (g : ℕ) (s x : Side) (sides : Numbered Side) (groups : Numbered GroupHistory)
     → map.get j.sides g ≡ Some s → map.get sides g ≡ Some x → ((q : ℕ) → q ≢ g → map.get sides q ≡ map.get j.sides q)
     → ((q : ℕ) → q ≢ g → map.get groups q ≡ map.get j.history.groups q)
     → SeenAlike j.daemon.tables.entries s x → KeptAs j g (map.get groups g) x
-    → Kept (with_sides sides groups j)
+    → InvariantHolds (with_sides sides groups j)
 side_changes j kept g s x sides groups side now beside others alike keeps =
     let t = j.daemon.tables in
     record {

@@ -27,7 +27,7 @@ use Rattle.dm_zone.proofs.RoomLemmas.{bytes_fit, room_none, room_some}
 use Rattle.dm_durable.specs.Tables.{Named}
 use Rattle.dm_durable.specs.declared.group.VolumeRow.{VolumeRow}
 use Rattle.dm_durable.specs.Volumes.{Usage, destination_in, is_listed, of_serial, room_in, space_if, space_of, spaces, target_spaces, tip_in}
-use Rattle.dm_invariant.specs.Among.{Among}
+use Rattle.dm_invariant.specs.Among.{IsAmong}
 use Rattle.dm_invariant.specs.Reservations.{PiecesJoin}
 use Rattle.dm_invariant.proofs.Lists.{among_either, among_if}
 
@@ -44,7 +44,7 @@ pub record SpaceOf (u : Usage) (volumes : Named VolumeRow) (sp : Space) : Type 0
 
 -- no two spaces are of one volume
 abbrev NoneOn : List ℕ → List Space → Type 0
-NoneOn vsn sps = (sp : Space) → Among sp sps → sp.vsn.0 ≡ vsn → ⊥
+NoneOn vsn sps = (sp : Space) → IsAmong sp sps → sp.vsn.0 ≡ vsn → ⊥
 
 abbrev pub SpacesApart : List Space → Type 0
 SpacesApart [] = Unit {0}
@@ -55,13 +55,13 @@ module _ (u : Usage) (volumes : Named VolumeRow) where
   abbrev spaces_in : List (List ℕ × VolumeRow) → List Space
   spaces_in es = flat_map (λ e. of_serial e.0 (space_if u e.0 e.1 e.1.held)) es
 
-  one_space : (vsn : List ℕ) (v : VolumeRow) (since : Option Secs) (sp : Space) → Among sp (space_if u vsn v since)
+  one_space : (vsn : List ℕ) (v : VolumeRow) (since : Option Secs) (sp : Space) → IsAmong sp (space_if u vsn v since)
       → (sp ≡ space_of u vsn v) × (since ≡ None)
   one_space vsn v None sp (inl same) = (same, refl)
   one_space vsn v None sp (inr a) = absurd a
   one_space vsn v (Some t) sp a = absurd a
 
-  space_here : (vsn : List ℕ) (v : VolumeRow) (sp : Space) → Among sp (of_serial vsn (space_if u vsn v v.held))
+  space_here : (vsn : List ℕ) (v : VolumeRow) (sp : Space) → IsAmong sp (of_serial vsn (space_if u vsn v v.held))
       → (sp ≡ space_of u vsn v) × (v.held ≡ None)
   space_here vsn v sp a = one_space vsn v v.held sp (among_if (nat_eq (length vsn) VSN_LENGTH) sp (space_if u vsn v v.held) a)
 
@@ -69,7 +69,7 @@ module _ (u : Usage) (volumes : Named VolumeRow) where
   space_row vsn v e free = record { volume = v; is = e; usable = free; version = refl; tip = refl; fits = refl }
 
   spaces_rows : (es : List (List ℕ × VolumeRow)) (sp : Space) → AllByRecursion (λ e. map.get volumes e.0 ≡ Some e.1) es
-      → Among sp (spaces_in es) → SpaceOf u volumes sp
+      → IsAmong sp (spaces_in es) → SpaceOf u volumes sp
   spaces_rows [] sp all a = absurd a
   spaces_rows (e ∷ es) sp all a =
       elim (among_either sp (of_serial e.0 (space_if u e.0 e.1 e.1.held)) (spaces_in es) a) [
@@ -80,11 +80,11 @@ module _ (u : Usage) (volumes : Named VolumeRow) where
       ]
 
   -- each space of a group is one of its volumes that aren't held
-  pub spaces_are : (sp : Space) → Among sp (spaces u volumes) → SpaceOf u volumes sp
+  pub spaces_are : (sp : Space) → IsAmong sp (spaces u volumes) → SpaceOf u volumes sp
   spaces_are sp a = spaces_rows (map.entries volumes) sp (entries-found paths volumes) a
 
   spaces_above : (k : List ℕ) (es : List (List ℕ × VolumeRow)) (sp : Space) → T (below_all (slice_cmp nat_cmp) k es)
-      → Among sp (spaces_in es) → slice_cmp nat_cmp k sp.vsn.0 ≡ Less
+      → IsAmong sp (spaces_in es) → slice_cmp nat_cmp k sp.vsn.0 ≡ Less
   spaces_above k [] sp h a = absurd a
   spaces_above k (e ∷ es) sp h a =
       elim (among_either sp (of_serial e.0 (space_if u e.0 e.1 e.1.held)) (spaces_in es) a) [
@@ -126,7 +126,7 @@ module _ (u : Usage) (volumes : Named VolumeRow) where
 -- a piece is the first zone on one space, within its room
 pub record PieceFrom (sps : List Space) (p : Piece) : Type 0 where
   pub space : Space
-  pub among : Among space sps
+  pub among : IsAmong space sps
   pub vsn : p.vsn ≡ space.vsn
   pub version : p.version ≡ space.version
   pub zone : p.zone ≡ space.tip
@@ -183,13 +183,13 @@ first_takes sp sps offset left =
     ]
 
 -- each piece is on one of the spaces
-pub pieces_from : (sps : List Space) (offset left : ℕ) (p : Piece) → Among p (pieces_of sps offset left) → PieceFrom sps p
+pub pieces_from : (sps : List Space) (offset left : ℕ) (p : Piece) → IsAmong p (pieces_of sps offset left) → PieceFrom sps p
 unfolding pieces_of
 pieces_from [] offset left p a = absurd a
 pieces_from (sp ∷ sps) offset left p a =
     elim (first_takes sp sps offset left) [
-      | TakesNone h is ↦ from_rest sp sps p (pieces_from sps offset left p (subst (Among p) is a))
-      | TakesSome l is ↦ elim (subst (Among p) is a) [
+      | TakesNone h is ↦ from_rest sp sps p (pieces_from sps offset left p (subst (IsAmong p) is a))
+      | TakesSome l is ↦ elim (subst (IsAmong p) is a) [
         | inl same ↦ from_first sp sps offset (lesser sp.room left) p same l (omega arith)
         | inr b ↦ from_rest sp sps p (pieces_from sps (offset + lesser sp.room left) (left - lesser sp.room left) p b)
       ]
@@ -201,21 +201,21 @@ elsewhere sp sps p q none at f same =
     none f.space f.among (sym (ap (λ v. v.0) f.vsn) ∙ sym same ∙ ap (λ v. v.0) at)
 
 -- two pieces on one volume are one piece
-pub one_on_volume : (sps : List Space) (offset left : ℕ) (p q : Piece) → SpacesApart sps → Among p (pieces_of sps offset left)
-    → Among q (pieces_of sps offset left) → p.vsn.0 ≡ q.vsn.0 → p ≡ q
+pub one_on_volume : (sps : List Space) (offset left : ℕ) (p q : Piece) → SpacesApart sps → IsAmong p (pieces_of sps offset left)
+    → IsAmong q (pieces_of sps offset left) → p.vsn.0 ≡ q.vsn.0 → p ≡ q
 unfolding pieces_of
 one_on_volume [] offset left p q apart a b same = absurd a
 one_on_volume (sp ∷ sps) offset left p q apart a b same =
     let taken = lesser sp.room left in
     elim (first_takes sp sps offset left) [
-      | TakesNone h is ↦ one_on_volume sps offset left p q apart.1 (subst (Among p) is a) (subst (Among q) is b) same
-      | TakesSome l is ↦ elim (subst (Among p) is a) [
-        | inl first_p ↦ elim (subst (Among q) is b) [
+      | TakesNone h is ↦ one_on_volume sps offset left p q apart.1 (subst (IsAmong p) is a) (subst (IsAmong q) is b) same
+      | TakesSome l is ↦ elim (subst (IsAmong p) is a) [
+        | inl first_p ↦ elim (subst (IsAmong q) is b) [
           | inl first_q ↦ first_p ∙ sym first_q
           | inr rest_q ↦ absurd (elsewhere sp sps p q apart.0 (ap (λ (x : Piece). x.vsn) first_p)
               (pieces_from sps (offset + taken) (left - taken) q rest_q) same)
         ]
-        | inr rest_p ↦ elim (subst (Among q) is b) [
+        | inr rest_p ↦ elim (subst (IsAmong q) is b) [
           | inl first_q ↦ absurd (elsewhere sp sps q p apart.0 (ap (λ (x : Piece). x.vsn) first_q)
               (pieces_from sps (offset + taken) (left - taken) p rest_p) (sym same))
           | inr rest_q ↦ one_on_volume sps (offset + taken) (left - taken) p q apart.1 rest_p rest_q same
@@ -301,21 +301,21 @@ pub record Destination (u : Usage) (listed : List Vsn) (volumes : Named VolumeRo
   pub unlisted : is_listed listed sp.vsn.0 ≡ false
   pub room : len ≤ sp.room
 
-found : {X : Type 0} (t : X → Bool) (xs : List X) (x : X) → find t xs ≡ Some x → Among x xs × (t x ≡ true)
+found : {X : Type 0} (t : X → Bool) (xs : List X) (x : X) → find t xs ≡ Some x → IsAmong x xs × (t x ≡ true)
 found t [] x e = absurd (cc)
 found {X} t (y ∷ ys) x e =
-    elim (t y) as (λ b. t y ≡ b → cond b (Some y) (find t ys) ≡ Some x → ((x ≡ y) ⊎ Among x ys) × (t x ≡ true)) [
+    elim (t y) as (λ b. t y ≡ b → cond b (Some y) (find t ys) ≡ Some x → ((x ≡ y) ⊎ IsAmong x ys) × (t x ≡ true)) [
       | true ↦ λ passes is. let same : y ≡ x = cc in (inl (sym same), ap t (sym same) ∙ passes)
       | false ↦ λ fails is. let rest = found t ys x is in (inr rest.0, rest.1)
     ] refl e
 
-first_found : (version len : ℕ) (sps : List Space) (sp : Space) → first_with_room version len sps ≡ Some sp → Among sp sps × (len ≤ sp.room)
+first_found : (version len : ℕ) (sps : List Space) (sp : Space) → first_with_room version len sps ≡ Some sp → IsAmong sp sps × (len ≤ sp.room)
 first_found version len sps sp is =
     let f = found (λ s. nat_eq s.version version && nat_le len s.room) sps sp is in
     (f.0, leb-true len sp.room (and_parts _ _ f.1).1)
 
 either_found : (len : ℕ) (sps : List Space) (sp : Space) (o : Option Space) → first_with_room second_version len sps ≡ o
-    → or_else o (first_with_room first_version len sps) ≡ Some sp → Among sp sps × (len ≤ sp.room)
+    → or_else o (first_with_room first_version len sps) ≡ Some sp → IsAmong sp sps × (len ≤ sp.room)
 either_found len sps sp None is e = first_found first_version len sps sp e
 either_found len sps sp (Some x) is e = first_found second_version len sps sp (is ∙ e)
 
@@ -325,12 +325,12 @@ module _ (u : Usage) (listed : List Vsn) (volumes : Named VolumeRow) where
       flat_map (λ e. of_serial e.0 (cond (u.mounted e.0 || is_listed listed e.0) [] (space_if u e.0 e.1 e.1.held))) es
 
   -- a space is among those that a test lets through
-  let_through : (b : Bool) (sp : Space) (xs : List Space) → Among sp (cond b [] xs) → (b ≡ false) × Among sp xs
+  let_through : (b : Bool) (sp : Space) (xs : List Space) → IsAmong sp (cond b [] xs) → (b ≡ false) × IsAmong sp xs
   let_through true sp xs a = absurd a
   let_through false sp xs a = (refl, a)
 
   target_here : (vsn : List ℕ) (v : VolumeRow) (len : ℕ) (sp : Space) → map.get volumes vsn ≡ Some v → len ≤ sp.room
-      → Among sp (of_serial vsn (cond (u.mounted vsn || is_listed listed vsn) [] (space_if u vsn v v.held))) → Destination u listed volumes len sp
+      → IsAmong sp (of_serial vsn (cond (u.mounted vsn || is_listed listed vsn) [] (space_if u vsn v v.held))) → Destination u listed volumes len sp
   target_here vsn v len sp is room a =
       let b = among_if (nat_eq (length vsn) VSN_LENGTH) sp (cond (u.mounted vsn || is_listed listed vsn) [] (space_if u vsn v v.held)) a in
       let c = let_through (u.mounted vsn || is_listed listed vsn) sp (space_if u vsn v v.held) b in
@@ -345,7 +345,7 @@ module _ (u : Usage) (listed : List Vsn) (volumes : Named VolumeRow) where
       }
 
   targets_rows : (es : List (List ℕ × VolumeRow)) (len : ℕ) (sp : Space) → AllByRecursion (λ e. map.get volumes e.0 ≡ Some e.1) es
-      → len ≤ sp.room → Among sp (targets_in es) → Destination u listed volumes len sp
+      → len ≤ sp.room → IsAmong sp (targets_in es) → Destination u listed volumes len sp
   targets_rows [] len sp all room a = absurd a
   targets_rows (e ∷ es) len sp all room a =
       elim (among_either sp (of_serial e.0 (cond (u.mounted e.0 || is_listed listed e.0) [] (space_if u e.0 e.1 e.1.held))) (targets_in es) a) [

@@ -44,15 +44,15 @@ use Rattle.dm_model.specs.declared.state.Reusing.{Reusing}
 use Rattle.dm_model.specs.declared.state.Side.{Side}
 use Rattle.dm_model.specs.Effects.{after_healing, after_payload}
 use Rattle.dm_model.specs.GroupCalls.{add_volume, add_volume_needs, delete_needs, delete_of, free, free_of, group_time, is_labelled_new, is_new_label, is_of_move, is_reuse_label, may_reserve, may_unmount, reserve, reserve_needs, reuse, reuse_needs, was_relabelled}
-use Rattle.dm_model.specs.Plan.{nothing}
+use Rattle.dm_model.specs.Plan.{no_needs}
 use Rattle.dm_model.specs.SideShare.{side_after_payload, side_without_doubt}
 use Rattle.dm_model.specs.Volumes.{has_piece_on, is_reserved, usage_of}
 use Rattle.dm_model.proofs.Shares.{healing-at, payload-at}
-use Rattle.dm_invariant.specs.Among.{Among}
-use Rattle.dm_invariant.specs.Kept.{Kept, committed_in, deleted_in}
+use Rattle.dm_invariant.specs.Among.{IsAmong}
+use Rattle.dm_invariant.specs.Kept.{InvariantHolds, committed_in, deleted_in}
 use Rattle.dm_invariant.specs.Mounts.{OriginKept, mounted_of}
 use Rattle.dm_invariant.specs.Moves.{IsReadyAt}
-use Rattle.dm_invariant.specs.Places.{Doubted, Has, IsPut, Kept as KeptPlace, Live, Owner, PlacesKept, Target}
+use Rattle.dm_invariant.specs.Places.{Doubted, HasPlace, IsPut, Reserving as KeptPlace, Live, Owner, PlacesKept, Target}
 use Rattle.dm_invariant.specs.Volumes.{IsOfConf}
 use Rattle.dm_invariant.proofs.Lists.{one_passes, passing}
 use Rattle.dm_invariant.proofs.Options.{no_value, none_of, same_row}
@@ -69,7 +69,7 @@ use Rattle.dm_group_effects.proofs.SideChanges.{KeptAs}
 
 puts_none : (bitfiles : Numbered BitfileRow) (reservations : Numbered Reserved) (moves : Numbered Moving) (doubt : Option GroupRecord)
     (r : GroupRecord) → ((c : Chunk) → IsPut c r.step → ⊥) → (o : Owner) (vsn : List ℕ) (place : ℕ)
-    → Has bitfiles reservations moves (Some r) o vsn place → Has bitfiles reservations moves doubt o vsn place
+    → HasPlace bitfiles reservations moves (Some r) o vsn place → HasPlace bitfiles reservations moves doubt o vsn place
 puts_none bitfiles reservations moves doubt r none (Live b offset) vsn place h = h
 puts_none bitfiles reservations moves doubt r none (KeptPlace n offset) vsn place h = h
 puts_none bitfiles reservations moves doubt r none (Target job) vsn place h = h
@@ -140,7 +140,7 @@ module _ (s : Side) where
 
 -- no piece is reserved on a volume that isn't reserved
 unreserved_of : (reservations : Numbered Reserved) (vsn : List ℕ) → is_reserved reservations vsn ≡ false
-    → EachRow reservations (λ n r. (p : Piece) → Among p r.pieces → p.vsn.0 ≡ vsn → ⊥)
+    → EachRow reservations (λ n r. (p : Piece) → IsAmong p r.pieces → p.vsn.0 ≡ vsn → ⊥)
 unreserved_of reservations vsn none = λ n r is p among same.
     let fails = any-false numbers (λ q (x : Reserved). has_piece_on vsn x) reservations none n r is in
     let passes = one_passes (λ (q : Piece). same_text q.vsn.0 vsn) p r.pieces among (same_texts p.vsn.0 vsn same) in
@@ -184,7 +184,7 @@ reading_before now made label next_epoch version reading is e =
     let f = subst (λ o. is_reuse_label now o label ≡ true) is e in
     leb-true reading.0 now (and_parts _ _ f).1
 
-module _ (j : Joint) (kept : Kept j) (w : ℕ) (g : GroupId) (s : Side) (side : map.get j.sides g.0 ≡ Some s) where
+module _ (j : Joint) (kept : InvariantHolds j) (w : ℕ) (g : GroupId) (s : Side) (side : map.get j.sides g.0 ≡ Some s) where
   abbrev done : Option GroupHistory
   done = map.get j.history.groups g.0
 
@@ -312,14 +312,14 @@ module _ (j : Joint) (kept : Kept j) (w : ℕ) (g : GroupId) (s : Side) (side : 
   -- ---- a volume is freed
 
   free_of_kept : (vsn : Vsn) (now : ℕ) (v : VolumeRow) → map.get s.group.tables.volumes vsn.0 ≡ Some v
-      → (freed : Bool) → is_freeable_in (usage_of s.group) s.group.tables vsn.0 v ≡ freed → CallKept j w (free_of g s.group vsn now freed) nothing
-  free_of_kept vsn now v is false freed = step_kept j kept w g s side (free_of g s.group vsn now false) nothing (record {
+      → (freed : Bool) → is_freeable_in (usage_of s.group) s.group.tables vsn.0 v ≡ freed → CallKept j w (free_of g s.group vsn now freed) no_needs
+  free_of_kept vsn now v is false freed = step_kept j kept w g s side (free_of g s.group vsn now false) no_needs (record {
     is = record { group = refl; unmarked = refl; unmade = refl; healed = inl refl };
     of = tt;
     ends = λ all. own;
     pays = λ all none. tt;
   })
-  free_of_kept vsn now v is true freed = step_kept j kept w g s side (free_of g s.group vsn now true) nothing (record {
+  free_of_kept vsn now v is true freed = step_kept j kept w g s side (free_of g s.group vsn now true) no_needs (record {
     is = record { group = refl; unmarked = refl; unmade = refl; healed = inl refl };
     of = tt;
     ends = λ all. own;
@@ -368,8 +368,8 @@ module _ (j : Joint) (kept : Kept j) (w : ℕ) (g : GroupId) (s : Side) (side : 
       above tip low high differs = omega (arith, low, high, differs)
 
   pub free_kept : (vsn : Vsn) (now : ℕ) (o : Option VolumeRow) → map.get s.group.tables.volumes vsn.0 ≡ o
-      → CallKept j w (free g s.group vsn now o) nothing
-  free_kept vsn now None is = never_kept j w (free g s.group vsn now None) nothing (λ all. let f = all.0 in cc)
+      → CallKept j w (free g s.group vsn now o) no_needs
+  free_kept vsn now None is = never_kept j w (free g s.group vsn now None) no_needs (λ all. let f = all.0 in cc)
   free_kept vsn now (Some v) is = free_of_kept vsn now v is (is_freeable_in (usage_of s.group) s.group.tables vsn.0 v) refl
 
   -- ---- a volume is used again
@@ -399,7 +399,7 @@ module _ (j : Joint) (kept : Kept j) (w : ℕ) (g : GroupId) (s : Side) (side : 
   -- nor is one reserved there
   ready_unreserved : (now : ℕ) (vsn : List ℕ) (v : VolumeRow) → map.get s.group.tables.volumes vsn ≡ Some v
       → IsReadyAt now s.group.conf.hold (tip_in s.group.tips vsn v) v.held
-      → EachRow s.group.reservations (λ n r. (p : Piece) → Among p r.pieces → p.vsn.0 ≡ vsn → ⊥)
+      → EachRow s.group.reservations (λ n r. (p : Piece) → IsAmong p r.pieces → p.vsn.0 ≡ vsn → ⊥)
   ready_unreserved now vsn v is ready = λ n r at p among same.
       let hand = (own.reservations.reservation n r at).zones p among in
       let here : hand.volume ≡ v = same_row (map.get s.group.tables.volumes vsn) hand.volume v

@@ -11,7 +11,7 @@ use Rattle.dm_rules.specs.Version.{chunk_header, has_sum}
 use Rattle.dm_rules.specs.Zone.{chunk_count, chunk_sum, zone_header}
 use Rattle.dm_durable.specs.GroupConditions.{Joins}
 use Rattle.dm_model.specs.GroupCalls.{part_of, piece_sums, same_sums, summed_chunks, with_sums}
-use Rattle.dm_invariant.specs.Among.{Among}
+use Rattle.dm_invariant.specs.Among.{IsAmong}
 use Rattle.dm_invariant.specs.Assemble.{IsSumOf}
 use Rattle.dm_invariant.specs.Reservations.{PiecesJoin}
 use Rattle.dm_invariant.proofs.Lists.{among_either, mapped_among}
@@ -107,13 +107,13 @@ summed_are chunk bytes (p ∷ ps) =
 -- each is a chunk of a piece
 pub record Summed (chunk : ℕ) (bytes : List ℕ) (ps : List Piece) (c : Chunk) : Type 0 where
   pub piece : Piece
-  pub among : Among piece ps
+  pub among : IsAmong piece ps
   pub base : Chunk
-  pub part : Among base (chunks_of chunk piece)
+  pub part : IsAmong base (chunks_of chunk piece)
   pub same : with_sum piece.version bytes base ≡ c
 
 pub summed_of : (chunk : ℕ) (bytes : List ℕ) (ps : List Piece) (c : Chunk)
-    → Among c (flat_map (λ p. prelude.map (with_sum p.version bytes) (chunks_of chunk p)) ps) → Summed chunk bytes ps c
+    → IsAmong c (flat_map (λ p. prelude.map (with_sum p.version bytes) (chunks_of chunk p)) ps) → Summed chunk bytes ps c
 summed_of chunk bytes [] c among = absurd among
 summed_of chunk bytes (p ∷ ps) c among =
     elim (among_either c (prelude.map (with_sum p.version bytes) (chunks_of chunk p))

@@ -3,7 +3,7 @@ use Rattle.std.proofs.Common.{◌≡◌, ◌≢◌, inl, inr, ℕ, ◌+◌, ◌<
 use Rattle.std.specs.FinMap as map
 use Rattle.dm_base.specs.declared.volume.Piece.{Piece}
 use Rattle.dm_rules.specs.declared.space.Space.{Space}
-use Rattle.dm_rules.specs.Numbers.{last_u64, narrowed}
+use Rattle.dm_rules.specs.Numbers.{last_u64, as_word}
 use Rattle.dm_rules.specs.Plan.{pieces_of, zone_end}
 use Rattle.dm_rules.specs.Room.{room}
 use Rattle.dm_rules.specs.Zone.{weight, zone_length}
@@ -17,7 +17,7 @@ use Rattle.dm_model.specs.declared.state.Group.{Group}
 use Rattle.dm_model.specs.declared.state.Reusing.{Reusing}
 use Rattle.dm_model.specs.GroupShare.{tips_behind}
 use Rattle.dm_model.specs.Volumes.{usage_of}
-use Rattle.dm_invariant.specs.Among.{Among}
+use Rattle.dm_invariant.specs.Among.{IsAmong}
 use Rattle.dm_invariant.specs.Volumes.{VolumesKept}
 use Rattle.dm_group_effects.proofs.Spaces.{PieceFrom, SpaceOf, one_on_volume, pieces_from, spaces_apart, spaces_are, zone_fits, zone_longer}
 use Rattle.dm_group_effects.proofs.TipsRisen.{TipsRise}
@@ -102,12 +102,12 @@ new_piece u volumes sps p positive bound f of =
 
 -- the tip of a volume after pieces have moved the tips: behind the zone of one of the pieces on it, or as before
 data Moved (chunk : ℕ) (ps : List Piece) (tips : Named ℕ) (vsn : List ℕ) : Type 0 where
-  Behind : (p : Piece) → Among p ps → p.vsn.0 ≡ vsn → map.get (tips_behind chunk ps tips) vsn ≡ Some (narrowed (zone_end chunk p))
+  Behind : (p : Piece) → IsAmong p ps → p.vsn.0 ≡ vsn → map.get (tips_behind chunk ps tips) vsn ≡ Some (as_word (zone_end chunk p))
       → Moved chunk ps tips vsn
-  Unmoved : ((p : Piece) → Among p ps → p.vsn.0 ≡ vsn → ⊥) → map.get (tips_behind chunk ps tips) vsn ≡ map.get tips vsn → Moved chunk ps tips vsn
+  Unmoved : ((p : Piece) → IsAmong p ps → p.vsn.0 ≡ vsn → ⊥) → map.get (tips_behind chunk ps tips) vsn ≡ map.get tips vsn → Moved chunk ps tips vsn
 
-none_of_two : (q : Piece) (ps : List Piece) (vsn : List ℕ) → vsn ≢ q.vsn.0 → ((p : Piece) → Among p ps → p.vsn.0 ≡ vsn → ⊥) → (p : Piece)
-    → Among p (q ∷ ps) → p.vsn.0 ≡ vsn → ⊥
+none_of_two : (q : Piece) (ps : List Piece) (vsn : List ℕ) → vsn ≢ q.vsn.0 → ((p : Piece) → IsAmong p ps → p.vsn.0 ≡ vsn → ⊥) → (p : Piece)
+    → IsAmong p (q ∷ ps) → p.vsn.0 ≡ vsn → ⊥
 none_of_two q ps vsn differ none p (inl same) at = differ (sym at ∙ ap (λ (x : Piece). x.vsn.0) same)
 none_of_two q ps vsn differ none p (inr a) at = none p a at
 
@@ -115,7 +115,7 @@ none_of_two q ps vsn differ none p (inr a) at = none p a at
 moved : (chunk : ℕ) (ps : List Piece) (tips : Named ℕ) (vsn : List ℕ) → Moved chunk ps tips vsn
 moved chunk [] tips vsn = Unmoved (λ p a at. a) refl
 moved chunk (q ∷ ps) tips vsn =
-    let e = narrowed (zone_end chunk q) in
+    let e = as_word (zone_end chunk q) in
     elim (moved chunk ps (map.insert tips q.vsn.0 e) vsn) [
       | Behind p a at is ↦ Behind p (inr a) at is
       | Unmoved none is ↦ elim (same_or paths q.vsn.0 vsn) [
@@ -127,9 +127,9 @@ moved chunk (q ∷ ps) tips vsn =
 -- where pieces were laid out: each has a zone from the old tip of its volume up to the new one, no two are on one volume,
 -- and tips rise
 pub record LaidOut (u : Usage) (volumes : Named VolumeRow) (reuses : Numbered Reusing) (new : Named ℕ) (ps : List Piece) : Type 0 where
-  pub zones : (p : Piece) → Among p ps → NewPiece u volumes p
-  pub reserved : (p : Piece) (v : VolumeRow) → Among p ps → map.get volumes p.vsn.0 ≡ Some v → zone_end u.chunk p ≤ tip_in new p.vsn.0 v
-  pub apart : (p q : Piece) → Among p ps → Among q ps → p.vsn.0 ≡ q.vsn.0 → p ≡ q
+  pub zones : (p : Piece) → IsAmong p ps → NewPiece u volumes p
+  pub reserved : (p : Piece) (v : VolumeRow) → IsAmong p ps → map.get volumes p.vsn.0 ≡ Some v → zone_end u.chunk p ≤ tip_in new p.vsn.0 v
+  pub apart : (p q : Piece) → IsAmong p ps → IsAmong q ps → p.vsn.0 ≡ q.vsn.0 → p ≡ q
   pub rise : TipsRise volumes reuses u.tips new
 
 -- a tip that is put behind a new zone
@@ -139,7 +139,7 @@ pub record TipBehind (u : Usage) (new : Named ℕ) (vsn : List ℕ) (end : ℕ) 
   pub within : tip_in new vsn v ≤ v.size
 
 pub tip_behind : (u : Usage) (volumes : Named VolumeRow) (new : Named ℕ) (vsn : List ℕ) (version zone end : ℕ) (v : VolumeRow)
-    → map.get volumes vsn ≡ Some v → v.size ≤ last_u64 → NewZone u volumes vsn version zone end → map.get new vsn ≡ Some (narrowed end)
+    → map.get volumes vsn ≡ Some v → v.size ≤ last_u64 → NewZone u volumes vsn version zone end → map.get new vsn ≡ Some (as_word end)
     → TipBehind u new vsn end v
 tip_behind u volumes new vsn version zone end v e small z is =
     let same : z.volume ≡ v = one_row volumes vsn vsn z.volume v refl z.is e in
@@ -147,18 +147,18 @@ tip_behind u volumes new vsn version zone end v e small z is =
     let from : zone ≡ tip_in u.tips vsn v = z.from ∙ ap (λ (w : VolumeRow). tip_in u.tips vsn w) same in
     let longer = z.longer in
     let within = z.within in
-    let put : tip_in new vsn v ≡ narrowed end = ap (λ t. tip_or t v) is in
+    let put : tip_in new vsn v ≡ as_word end = ap (λ t. tip_or t v) is in
     let tip : tip_in new vsn v ≡ end = omega (arith, put, within, size, small) in
     record { tip = tip; grows = omega (arith, tip, from, longer); within = omega (arith, tip, within, size) }
 
 module _ (u : Usage) (volumes : Named VolumeRow) (ps : List Piece) (small : EachRow volumes (λ vsn v. v.size ≤ last_u64))
-    (bound : TipsFit volumes u.tips) (zones : (p : Piece) → Among p ps → NewPiece u volumes p)
-    (apart : (p q : Piece) → Among p ps → Among q ps → p.vsn.0 ≡ q.vsn.0 → p ≡ q) where
+    (bound : TipsFit volumes u.tips) (zones : (p : Piece) → IsAmong p ps → NewPiece u volumes p)
+    (apart : (p q : Piece) → IsAmong p ps → IsAmong q ps → p.vsn.0 ≡ q.vsn.0 → p ≡ q) where
   abbrev new_tips : Named ℕ
   new_tips = tips_behind u.chunk ps u.tips
 
-  piece_behind : (p : Piece) (vsn : List ℕ) (v : VolumeRow) → map.get volumes vsn ≡ Some v → Among p ps → p.vsn.0 ≡ vsn
-      → map.get new_tips vsn ≡ Some (narrowed (zone_end u.chunk p)) → TipBehind u new_tips vsn (zone_end u.chunk p) v
+  piece_behind : (p : Piece) (vsn : List ℕ) (v : VolumeRow) → map.get volumes vsn ≡ Some v → IsAmong p ps → p.vsn.0 ≡ vsn
+      → map.get new_tips vsn ≡ Some (as_word (zone_end u.chunk p)) → TipBehind u new_tips vsn (zone_end u.chunk p) v
   piece_behind p vsn v e among at is =
       tip_behind u volumes new_tips vsn p.version p.zone (zone_end u.chunk p) v e (small vsn v e)
       (subst (λ q. NewZone u volumes q p.version p.zone (zone_end u.chunk p)) at (zones p among)) is
@@ -182,7 +182,7 @@ module _ (u : Usage) (volumes : Named VolumeRow) (ps : List Piece) (small : Each
   stayed vsn reused (Unmoved none is) = is
 
   -- the tip of a volume on which a piece was laid out lies behind its zone
-  reaches : (p : Piece) (v : VolumeRow) → Among p ps → map.get volumes p.vsn.0 ≡ Some v → Moved u.chunk ps u.tips p.vsn.0
+  reaches : (p : Piece) (v : VolumeRow) → IsAmong p ps → map.get volumes p.vsn.0 ≡ Some v → Moved u.chunk ps u.tips p.vsn.0
       → zone_end u.chunk p ≤ tip_in new_tips p.vsn.0 v
   reaches p v among e (Behind q a at is) =
       let tip = (piece_behind q p.vsn.0 v e a at is).tip in
@@ -203,10 +203,10 @@ laid_out group time len kept =
     let size = kept.fits.sized.most in
     let small : EachRow volumes (λ vsn v. v.size ≤ last_u64) = λ vsn v e. let same = (kept.volume vsn v e).size in omega (arith, same, size) in
     let bound : TipsFit volumes u.tips = λ vsn v e. (kept.volume vsn v e).tip in
-    let zones : (p : Piece) → Among p ps → NewPiece u volumes p = λ p a.
+    let zones : (p : Piece) → IsAmong p ps → NewPiece u volumes p = λ p a.
     let f = pieces_from sps 0 len p a in
     new_piece u volumes sps p kept.fits.chunk bound f (spaces_are u volumes f.space f.among) in
-    let apart : (p q : Piece) → Among p ps → Among q ps → p.vsn.0 ≡ q.vsn.0 → p ≡ q = λ p q a b same.
+    let apart : (p q : Piece) → IsAmong p ps → IsAmong q ps → p.vsn.0 ≡ q.vsn.0 → p ≡ q = λ p q a b same.
     one_on_volume sps 0 len p q (spaces_apart u volumes) a b same in
     record {
       zones = zones;
@@ -224,13 +224,13 @@ laid_out group time len kept =
 -- a tip that rises behind one new zone
 pub one_risen : (group : Group) (time : ℕ) (vsn : List ℕ) (version zone end : ℕ) → VolumesKept group.conf time group.tables.volumes group.tips
     → NewZone (usage_of group) group.tables.volumes vsn version zone end
-    → TipsRise group.tables.volumes group.reuses group.tips (map.insert group.tips vsn (narrowed end))
+    → TipsRise group.tables.volumes group.reuses group.tips (map.insert group.tips vsn (as_word end))
 one_risen group time vsn version zone end kept z =
     let u = usage_of group in
     let volumes = group.tables.volumes in
-    let new = map.insert group.tips vsn (narrowed end) in
+    let new = map.insert group.tips vsn (as_word end) in
     let size = kept.fits.sized.most in
-    let here = get-here paths group.tips vsn (narrowed end) in
+    let here = get-here paths group.tips vsn (as_word end) in
     let behind : (v : VolumeRow) → map.get volumes vsn ≡ Some v → TipBehind u new vsn end v = λ v e.
     let same = (kept.volume vsn v e).size in
     tip_behind u volumes new vsn version zone end v e (omega (arith, same, size)) z here in
@@ -238,27 +238,27 @@ one_risen group time vsn version zone end kept z =
       grows = λ q v e. elim (same_or paths vsn q) [
         | inl at ↦ subst (λ k. tip_in group.tips k v ≤ tip_in new k v) (sym at) (behind v (ap (map.get volumes) (sym at) ∙ e)).grows
         | inr differ ↦
-            let same : tip_in new q v ≡ tip_in group.tips q v = ap (λ t. tip_or t v) (get-beside paths group.tips vsn (narrowed end) q differ) in
+            let same : tip_in new q v ≡ tip_in group.tips q v = ap (λ t. tip_or t v) (get-beside paths group.tips vsn (as_word end) q differ) in
             omega (arith, same)
       ];
       within = λ q v e. elim (same_or paths vsn q) [
         | inl at ↦ subst (λ k. tip_in new k v ≤ v.size) (sym at) (behind v (ap (map.get volumes) (sym at) ∙ e)).within
         | inr differ ↦
-            let same : tip_in new q v ≡ tip_in group.tips q v = ap (λ t. tip_or t v) (get-beside paths group.tips vsn (narrowed end) q differ) in
+            let same : tip_in new q v ≡ tip_in group.tips q v = ap (λ t. tip_or t v) (get-beside paths group.tips vsn (as_word end) q differ) in
             let low = (kept.volume q v e).tip in
             omega (arith, same, low)
       ];
-      stays = λ q reused. get-beside paths group.tips vsn (narrowed end) q (λ at. let free = ap u.reused at ∙ z.free in absurd (cc));
+      stays = λ q reused. get-beside paths group.tips vsn (as_word end) q (λ at. let free = ap u.reused at ∙ z.free in absurd (cc));
     }
 
 -- and reaches it
 pub one_reaches : (group : Group) (time : ℕ) (vsn : List ℕ) (version zone end : ℕ) → VolumesKept group.conf time group.tables.volumes group.tips
     → (z : NewZone (usage_of group) group.tables.volumes vsn version zone end)
-    → end ≤ tip_in (map.insert group.tips vsn (narrowed end)) vsn z.volume
+    → end ≤ tip_in (map.insert group.tips vsn (as_word end)) vsn z.volume
 one_reaches group time vsn version zone end kept z =
     let size = kept.fits.sized.most in
     let same = (kept.volume vsn z.volume z.is).size in
-    let b = tip_behind (usage_of group) group.tables.volumes (map.insert group.tips vsn (narrowed end)) vsn version zone end z.volume z.is
-    (omega (arith, same, size)) z (get-here paths group.tips vsn (narrowed end)) in
+    let b = tip_behind (usage_of group) group.tables.volumes (map.insert group.tips vsn (as_word end)) vsn version zone end z.volume z.is
+    (omega (arith, same, size)) z (get-here paths group.tips vsn (as_word end)) in
     let tip = b.tip in
     omega (arith, tip)

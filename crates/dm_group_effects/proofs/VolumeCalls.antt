@@ -11,7 +11,7 @@ use Rattle.dm_base.specs.declared.identifier.GroupId.{GroupId}
 use Rattle.dm_base.specs.declared.serial.Vsn.{Vsn}
 use Rattle.dm_base.specs.declared.volume.Chunk.{Chunk}
 use Rattle.dm_base.specs.declared.volume.Piece.{Piece}
-use Rattle.dm_rules.specs.Known.{Known, agrees, byte_and, known_bytes}
+use Rattle.dm_rules.specs.Known.{Known, agrees_with_known, byte_and, known_bytes}
 use Rattle.dm_rules.specs.Label.{first_zone, label}
 use Rattle.dm_rules.specs.Zone.{weight, zone_length}
 use Rattle.dm_rules.proofs.Knowledge.{agrees-known_bytes}
@@ -27,15 +27,15 @@ use Rattle.dm_model.specs.declared.state.MountState.{MountState}
 use Rattle.dm_model.specs.declared.state.Origin.{Origin}
 use Rattle.dm_model.specs.declared.state.Origin.TheVariants as origin
 use Rattle.dm_model.specs.declared.state.Side.{Side}
-use Rattle.dm_model.specs.Effects.{after_failed_mark, after_mark, doubting}
+use Rattle.dm_model.specs.Effects.{after_failed_mark, after_mark, joint_with_doubt}
 use Rattle.dm_model.specs.GroupCalls.{part_of}
 use Rattle.dm_model.specs.Hashed.{SumsTellApart, hashed_of_chunk, hashed_of_read, hashed_on_volume, hashed_under, parts_of_content}
 use Rattle.dm_model.specs.Guards.{AllHold}
-use Rattle.dm_model.specs.Plan.{guards_always, guards_of, prepared, refusal_of}
+use Rattle.dm_model.specs.Plan.{guards_always, guards_of, prepared_plan, refusal_of}
 use Rattle.dm_model.specs.Step.{after_call, after_fault}
 use Rattle.dm_model.specs.VolumeCalls.{has_sum_of, is_planned_label, is_read_of, is_zone_place, mount_in, read_mark, volume_needs, volume_plan, zone_mark}
 use Rattle.dm_invariant.specs.Assemble.{IsSumOf, known_of, known_on}
-use Rattle.dm_invariant.specs.Kept.{Kept, committed_in, deleted_in}
+use Rattle.dm_invariant.specs.Kept.{InvariantHolds, committed_in, deleted_in}
 use Rattle.dm_invariant.specs.Mounts.{MayRead, OriginKept, PieceMount, ReadsChunk, TargetMount}
 use Rattle.dm_invariant.specs.Moves.{ReadPart}
 use Rattle.dm_invariant.specs.OnceLive.{MountOnce, OnceLive, StillThere}
@@ -131,7 +131,7 @@ record ReadIs (contents : Numbered (List ℕ)) (b : ℕ) (c : Chunk) (bytes : Li
   len : length bytes ≡ c.len
   part : part_of whole c.offset c.len ≡ bytes
 
-module _ (j : Joint) (kept : Kept j) (w : ℕ) (g : GroupId) (s : Side) (side : map.get j.sides g.0 ≡ Some s) where
+module _ (j : Joint) (kept : InvariantHolds j) (w : ℕ) (g : GroupId) (s : Side) (side : map.get j.sides g.0 ≡ Some s) where
   abbrev done : Option GroupHistory
   done = map.get j.history.groups g.0
 
@@ -184,7 +184,7 @@ module _ (j : Joint) (kept : Kept j) (w : ℕ) (g : GroupId) (s : Side) (side : 
 
     zone_kept : (place : ℕ) (zone : List ℕ) (epoch : ℕ) (made : Origin)
         → OriginKept s.group.conf s.group.reservations s.copies s.group.moves s.group.reuses m x.vsn made
-        → is_zone_place made place (length zone) ≡ true → Kept (after_mark w (zone_mark g vsn m place zone epoch made) j)
+        → is_zone_place made place (length zone) ≡ true → InvariantHolds (after_mark w (zone_mark g vsn m place zone epoch made) j)
     zone_kept place zone epoch (origin.New listed format) k at = kept
     zone_kept place zone epoch (origin.Piece b index p chunk) k at =
         mark_keeps j kept g s side w (mark.Zone g vsn place zone b index epoch) refl tt
@@ -200,7 +200,7 @@ module _ (j : Joint) (kept : Kept j) (w : ℕ) (g : GroupId) (s : Side) (side : 
 
     zone_failed : (place : ℕ) (zone : List ℕ) (epoch : ℕ) (made : Origin)
         → OriginKept s.group.conf s.group.reservations s.copies s.group.moves s.group.reuses m x.vsn made
-        → is_zone_place made place (length zone) ≡ true → Kept (after_failed_mark (zone_mark g vsn m place zone epoch made) j)
+        → is_zone_place made place (length zone) ≡ true → InvariantHolds (after_failed_mark (zone_mark g vsn m place zone epoch made) j)
     zone_failed place zone epoch (origin.New listed format) k at = kept
     zone_failed place zone epoch (origin.Piece b index p chunk) k at =
         failed_mark_keeps j kept g s side (mark.Zone g vsn place zone b index epoch) refl
@@ -246,7 +246,7 @@ module _ (j : Joint) (kept : Kept j) (w : ℕ) (g : GroupId) (s : Side) (side : 
     read_is : (b : Bfid) (c : Chunk) (place n : ℕ) (bytes : List ℕ) → c.vsn ≡ x.vsn
         → OnceLive j.history.contents s.group.tables.volumes s.images s.group.reservations s.group.moves x.epoch b.0 c
         → ReadsChunk c x.bound → is_read_of c place n bytes ≡ true → nat_eq (length bytes) n ≡ true
-        → (not x.bound || agrees image.known place bytes) ≡ true
+        → (not x.bound || agrees_with_known image.known place bytes) ≡ true
         → SumsTellApart (parts_of_content (map.get j.history.contents b.0) (c ∷ []) ++ hashed_of_chunk c place n bytes)
         → ReadIs j.history.contents b.0 c bytes
     read_is b c place n bytes of o reads counts long agree apart =
@@ -274,7 +274,7 @@ module _ (j : Joint) (kept : Kept j) (w : ℕ) (g : GroupId) (s : Side) (side : 
             let one = and_parts _ _ (and_parts _ _ counts).0 in
             let at : place ≡ c.place = eqb-true place c.place one.0 in
             let len : length bytes ≡ c.len = eqb-true (length bytes) n long ∙ eqb-true n c.len one.1 in
-            let agreed = bound_agrees x.bound (agrees image.known place bytes) agree (reads.known none) in
+            let agreed = bound_agrees x.bound (agrees_with_known image.known place bytes) agree (reads.known none) in
             let image_is : map.get s.images c.vsn.0 ≡ Some image = ap (λ (v : Vsn). map.get s.images v.0) of ∙ ap (map.get s.images) same ∙ there in
             let known : known_bytes image.known place (length bytes) ≡ Some (part_of still.bytes c.offset c.len) =
             ap (known_bytes image.known place) len ∙ ap (λ p. known_bytes image.known p c.len) at
@@ -322,14 +322,14 @@ module _ (j : Joint) (kept : Kept j) (w : ℕ) (g : GroupId) (s : Side) (side : 
     read_kept : (place n : ℕ) (bytes : List ℕ) (made : Origin) → x.origin ≡ made
         → OriginKept s.group.conf s.group.reservations s.copies s.group.moves s.group.reuses m x.vsn made
         → MountOnce j.history.contents s.group.tables.volumes s.images s.group.reservations s.group.moves x.epoch made
-        → MayRead made x.bound → nat_eq (length bytes) n ≡ true → (not x.bound || agrees image.known place bytes) ≡ true
+        → MayRead made x.bound → nat_eq (length bytes) n ≡ true → (not x.bound || agrees_with_known image.known place bytes) ≡ true
         → SumsTellApart (parts_of_origin j.history.contents made ++ hashed_of_read made place n bytes)
-        → Kept (after_mark w (read_mark g m place n bytes made) j)
+        → InvariantHolds (after_mark w (read_mark g m place n bytes made) j)
     read_kept place n bytes (origin.New listed format) is k once reads long agree apart = kept
     read_kept place n bytes (origin.Piece b index p chunk) is k once reads long agree apart = kept
     read_kept place n bytes (origin.Chunk b c) is k once reads long agree apart =
         elim (is_read_of c place n bytes) as (λ t. is_read_of c place n bytes ≡ t
-        → Kept (after_mark w (cond t (mark.Read g b c.offset bytes) mark.Nothing) j)) [
+        → InvariantHolds (after_mark w (cond t (mark.Read g b c.offset bytes) mark.Nothing) j)) [
           | true ↦ λ counts.
               read_keeps j kept w g b c.offset bytes
               (part_at b c bytes (read_is b c place n bytes k once reads counts long agree apart))
@@ -337,7 +337,7 @@ module _ (j : Joint) (kept : Kept j) (w : ℕ) (g : GroupId) (s : Side) (side : 
         ] refl
     read_kept place n bytes (origin.Source job b c) is k once reads long agree apart =
         elim (is_read_of c place n bytes) as (λ t. is_read_of c place n bytes ≡ t
-        → Kept (after_mark w (cond t (mark.Source g m bytes) mark.Nothing) j)) [
+        → InvariantHolds (after_mark w (cond t (mark.Source g m bytes) mark.Nothing) j)) [
           | true ↦ λ counts.
               mark_keeps j kept g s side w (mark.Source g m bytes) refl tt
               (side_source_read j.daemon.tables.entries j.history.contents j.history.taken j.daemon.requests g.0 (committed_in done) (deleted_in done) s
@@ -348,16 +348,16 @@ module _ (j : Joint) (kept : Kept j) (w : ℕ) (g : GroupId) (s : Side) (side : 
     read_kept place n bytes (origin.Reuse next_epoch version reading) is k once reads long agree apart = kept
 
   -- a read that fails leaves all as it was
-  read_failed : (m place n : ℕ) (bytes : List ℕ) (made : Origin) → Kept (after_failed_mark (read_mark g m place n bytes made) j)
+  read_failed : (m place n : ℕ) (bytes : List ℕ) (made : Origin) → InvariantHolds (after_failed_mark (read_mark g m place n bytes made) j)
   read_failed m place n bytes (origin.New listed format) = kept
   read_failed m place n bytes (origin.Piece b index p chunk) = kept
   read_failed m place n bytes (origin.Chunk b c) =
-      elim (is_read_of c place n bytes) as (λ t. Kept (after_failed_mark (cond t (mark.Read g b c.offset bytes) mark.Nothing) j)) [
+      elim (is_read_of c place n bytes) as (λ t. InvariantHolds (after_failed_mark (cond t (mark.Read g b c.offset bytes) mark.Nothing) j)) [
         | true ↦ kept
         | false ↦ kept
       ]
   read_failed m place n bytes (origin.Source job b c) =
-      elim (is_read_of c place n bytes) as (λ t. Kept (after_failed_mark (cond t (mark.Source g m bytes) mark.Nothing) j)) [
+      elim (is_read_of c place n bytes) as (λ t. InvariantHolds (after_failed_mark (cond t (mark.Source g m bytes) mark.Nothing) j)) [
         | true ↦ failed_mark_keeps j kept g s side (mark.Source g m bytes) refl own
         | false ↦ kept
       ]
@@ -367,7 +367,7 @@ module _ (j : Joint) (kept : Kept j) (w : ℕ) (g : GroupId) (s : Side) (side : 
   -- ---- calls
 
   -- nothing comes into doubt by a call on a volume
-  undoubted : (far : Bool) (k : Joint) → Kept k → Kept (doubting (cond far None None) k)
+  undoubted : (far : Bool) (k : Joint) → InvariantHolds k → InvariantHolds (joint_with_doubt (cond far None None) k)
   undoubted true k keeps = keeps
   undoubted false k keeps = keeps
 
@@ -381,7 +381,7 @@ module _ (j : Joint) (kept : Kept j) (w : ℕ) (g : GroupId) (s : Side) (side : 
     answered_at : (c : VolumeCall) (o : Option Image) (p : Option MountState) → map.get s.images vsn.0 ≡ o → map.get s.mounts (mount_in c) ≡ p
         → SumsTellApart (parts_on_volume j.history.contents s c ++ hashed_on_volume s c)
         → AllHold (guards_of (refusal_of (volume_plan g vsn o p c)) (volume_plan g vsn o p c) (volume_needs vsn p c))
-        → Kept (after_call w (prepared (volume_plan g vsn o p c)) j)
+        → InvariantHolds (after_call w (prepared_plan (volume_plan g vsn o p c)) j)
     answered_at c None None there mount apart legal = let f = legal.0 in absurd (cc)
     answered_at c None (Some x) there mount apart legal = let f = legal.0 in absurd (cc)
     answered_at c (Some image) None there mount apart legal = let f = legal.0 in absurd (cc)
@@ -398,7 +398,7 @@ module _ (j : Joint) (kept : Kept j) (w : ℕ) (g : GroupId) (s : Side) (side : 
 
     failed_at : (c : VolumeCall) (o : Option Image) (p : Option MountState) → map.get s.images vsn.0 ≡ o → map.get s.mounts (mount_in c) ≡ p
         → AllHold (guards_always (volume_plan g vsn o p c) (volume_needs vsn p c)) → (far : Bool)
-        → Kept (after_fault w (prepared (volume_plan g vsn o p c)) far j)
+        → InvariantHolds (after_fault w (prepared_plan (volume_plan g vsn o p c)) far j)
     failed_at c None None there mount legal far = let f = legal.0 in absurd (cc)
     failed_at c None (Some x) there mount legal far = let f = legal.0 in absurd (cc)
     failed_at c (Some image) None there mount legal far = let f = legal.0 in absurd (cc)
@@ -419,12 +419,12 @@ module _ (j : Joint) (kept : Kept j) (w : ℕ) (g : GroupId) (s : Side) (side : 
     pub volume_answered : (c : VolumeCall) → SumsTellApart (parts_on_volume j.history.contents s c ++ hashed_on_volume s c)
         → AllHold (guards_of (refusal_of (volume_plan g vsn (map.get s.images vsn.0) (map.get s.mounts (mount_in c)) c))
         (volume_plan g vsn (map.get s.images vsn.0) (map.get s.mounts (mount_in c)) c) (volume_needs vsn (map.get s.mounts (mount_in c)) c))
-        → Kept (after_call w (prepared (volume_plan g vsn (map.get s.images vsn.0) (map.get s.mounts (mount_in c)) c)) j)
+        → InvariantHolds (after_call w (prepared_plan (volume_plan g vsn (map.get s.images vsn.0) (map.get s.mounts (mount_in c)) c)) j)
     volume_answered c apart legal = answered_at c (map.get s.images vsn.0) (map.get s.mounts (mount_in c)) refl refl apart legal
 
     -- and one that fails
     pub volume_failed : (c : VolumeCall)
         → AllHold (guards_always (volume_plan g vsn (map.get s.images vsn.0) (map.get s.mounts (mount_in c)) c)
         (volume_needs vsn (map.get s.mounts (mount_in c)) c)) → (far : Bool)
-        → Kept (after_fault w (prepared (volume_plan g vsn (map.get s.images vsn.0) (map.get s.mounts (mount_in c)) c)) far j)
+        → InvariantHolds (after_fault w (prepared_plan (volume_plan g vsn (map.get s.images vsn.0) (map.get s.mounts (mount_in c)) c)) far j)
     volume_failed c legal far = failed_at c (map.get s.images vsn.0) (map.get s.mounts (mount_in c)) refl refl legal far

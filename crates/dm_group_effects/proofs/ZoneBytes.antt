@@ -11,9 +11,9 @@ use Rattle.dm_rules.specs.Known.{Known, byte_and, known_bytes}
 use Rattle.dm_rules.specs.Numbers.{lesser}
 use Rattle.dm_rules.specs.Plan.{chunks_at, chunks_of}
 use Rattle.dm_rules.specs.Version.{chunk_header}
-use Rattle.dm_rules.specs.Zone.{chunk_count, chunk_text, cut, cut_into, zone, zone_front, zone_header, zone_length}
+use Rattle.dm_rules.specs.Zone.{chunk_count, chunk_text, chunk_split, chunk_split_into, zone, zone_front, zone_header, zone_length}
 use Rattle.dm_zone.proofs.Cuts.{header_text, length-header_text, length-zone_front}
-use Rattle.dm_invariant.specs.Among.{Among}
+use Rattle.dm_invariant.specs.Among.{IsAmong}
 
 -- ---- known bytes in two parts
 
@@ -87,17 +87,17 @@ lengths h count left taken less = omega (arith, less)
 
 -- the first chunk of the bytes that are left, behind its header, and what stands behind it
 first_known : (known : Known) (version place count b total offset left chunk : ℕ) (xs : List ℕ) → length xs ≡ left
-    → known_bytes known place (chunk_header version * suc count + left) ≡ Some (flat_map chunk_text (cut_into version (suc count) b total offset xs chunk))
+    → known_bytes known place (chunk_header version * suc count + left) ≡ Some (flat_map chunk_text (chunk_split_into version (suc count) b total offset xs chunk))
     → (known_bytes known (place + chunk_header version) (lesser chunk left) ≡ Some (take chunk xs))
     × (known_bytes known (place + chunk_header version + lesser chunk left) (chunk_header version * count + (left - lesser chunk left))
-    ≡ Some (flat_map chunk_text (cut_into version count b total (offset + length (take chunk xs)) (drop chunk xs) chunk)))
-unfolding cut_into
+    ≡ Some (flat_map chunk_text (chunk_split_into version count b total (offset + length (take chunk xs)) (drop chunk xs) chunk)))
+unfolding chunk_split_into
 first_known known version place count b total offset left chunk xs long is =
     let h : ℕ = chunk_header version in
     let taken = lesser chunk left in
     let front = take chunk xs in
     let head = header_text version b total offset front in
-    let later = flat_map chunk_text (cut_into version count b total (offset + length front) (drop chunk xs) chunk) in
+    let later = flat_map chunk_text (chunk_split_into version count b total (offset + length front) (drop chunk xs) chunk) in
     let parts : (head ++ front) ++ later ≡ head ++ (front ++ later) = append_assoc head front later in
     let rest : ℕ = h * count + (left - taken) in
     let less : taken ≤ left = omega arith in
@@ -110,8 +110,8 @@ first_known known version place count b total offset left chunk xs long is =
 known_at : (known : Known) (version : ℕ) (p : Piece) (place count b total offset left chunk : ℕ) (bytes : List ℕ) (c : Chunk)
     → offset + left ≤ length bytes
     → known_bytes known place (chunk_header version * count + left)
-    ≡ Some (flat_map chunk_text (cut_into version count b total offset (take left (drop offset bytes)) chunk))
-    → Among c (chunks_at version chunk count p offset left place) → known_bytes known c.place c.len ≡ Some (take c.len (drop c.offset bytes))
+    ≡ Some (flat_map chunk_text (chunk_split_into version count b total offset (take left (drop offset bytes)) chunk))
+    → IsAmong c (chunks_at version chunk count p offset left place) → known_bytes known c.place c.len ≡ Some (take c.len (drop c.offset bytes))
 unfolding chunks_at
 known_at known version p place zero b total offset left chunk bytes c within is among = absurd among
 known_at known version p place (suc count) b total offset left chunk bytes c within is among =
@@ -127,8 +127,8 @@ known_at known version p place (suc count) b total offset left chunk bytes c wit
           let next : offset + length (take chunk xs) ≡ offset + taken = omega (arith, length-take chunk xs, long) in
           let back : drop chunk xs ≡ take (left - taken) (drop (offset + taken) bytes) =
           back_is chunk left (drop offset bytes) ∙ ap (take (left - taken)) (drop-drop taken offset bytes) in
-          let rest = parts.1 ∙ ap (λ n. Some (flat_map chunk_text (cut_into version count b total n (drop chunk xs) chunk))) next
-          ∙ ap (λ t. Some (flat_map chunk_text (cut_into version count b total (offset + taken) t chunk))) back in
+          let rest = parts.1 ∙ ap (λ n. Some (flat_map chunk_text (chunk_split_into version count b total n (drop chunk xs) chunk))) next
+          ∙ ap (λ t. Some (flat_map chunk_text (chunk_split_into version count b total (offset + taken) t chunk))) back in
           known_at known version p (place + chunk_header version + taken) count b total (offset + taken) (left - taken) chunk bytes c
           (omega (arith, within)) rest after
     ]
@@ -136,19 +136,19 @@ known_at known version p place (suc count) b total offset left chunk bytes c wit
 -- where a zone of a part of a bitfile is known, so is each of its chunks
 pub chunk_known : (known : Known) (p : Piece) (epoch b total chunk : ℕ) (bytes : List ℕ) (c : Chunk) → p.offset + p.len ≤ length bytes
     → known_bytes known p.zone (zone_length p.version chunk p.len)
-    ≡ Some (zone epoch (cut p.version b total p.offset (take p.len (drop p.offset bytes)) chunk))
-    → Among c (chunks_of chunk p) → known_bytes known c.place c.len ≡ Some (take c.len (drop c.offset bytes))
+    ≡ Some (zone epoch (chunk_split p.version b total p.offset (take p.len (drop p.offset bytes)) chunk))
+    → IsAmong c (chunks_of chunk p) → known_bytes known c.place c.len ≡ Some (take c.len (drop c.offset bytes))
 chunk_known known p epoch b total chunk bytes c within is among =
     let count : ℕ = chunk_count chunk p.len in
     let h : ℕ = chunk_header p.version in
     let part = take p.len (drop p.offset bytes) in
     let long : length part ≡ p.len = omega (arith, length-take p.len (drop p.offset bytes), length-drop p.offset bytes, within) in
-    let chunks = cut p.version b total p.offset part chunk in
+    let chunks = chunk_split p.version b total p.offset part chunk in
     let head = zone_front epoch (length chunks) (zone_header + length (flat_map chunk_text chunks)) in
     let whole : zone_length p.version chunk p.len ≡ 32 + (h * count + p.len) = omega arith in
     let front = length-zone_front epoch (length chunks) (zone_header + length (flat_map chunk_text chunks)) in
     let behind =
     (known_parts known p.zone 32 (h * count + p.len) head (flat_map chunk_text chunks) front
     (ap (known_bytes known p.zone) (sym whole) ∙ is)).1 in
-    let cut_same = ap (λ n. Some (flat_map chunk_text (cut_into p.version (chunk_count chunk n) b total p.offset part chunk))) long in
+    let cut_same = ap (λ n. Some (flat_map chunk_text (chunk_split_into p.version (chunk_count chunk n) b total p.offset part chunk))) long in
     known_at known p.version p (p.zone + zone_header) count b total p.offset p.len chunk bytes c within (behind ∙ cut_same) among

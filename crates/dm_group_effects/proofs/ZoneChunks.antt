@@ -8,7 +8,7 @@ use Rattle.dm_rules.specs.Plan.{chunks_at, chunks_of, zone_end}
 use Rattle.dm_rules.specs.Version.{chunk_header}
 use Rattle.dm_rules.specs.Zone.{chunk_count, zone_header}
 use Rattle.dm_durable.specs.GroupConditions.{Joins}
-use Rattle.dm_invariant.specs.Among.{Among}
+use Rattle.dm_invariant.specs.Among.{IsAmong}
 use Rattle.dm_invariant.specs.Places.{ChunkCovers}
 
 -- ---- the chunks from an offset and a place on
@@ -35,7 +35,7 @@ high_later : (h count left place taken end : ℕ) → taken ≤ left → end ≤
 high_later h count left place taken end less high = omega (arith, less, high)
 
 inside_at : (version chunk count : ℕ) (p : Piece) (offset left place : ℕ) (c : Chunk) → 0 < chunk → count * chunk < left + chunk
-    → Among c (chunks_at version chunk count p offset left place) → Inside version p count offset left place c
+    → IsAmong c (chunks_at version chunk count p offset left place) → Inside version p count offset left place c
 unfolding chunks_at
 inside_at version chunk zero p offset left place c some reach among = absurd among
 inside_at version chunk (suc count) p offset left place c some reach among =
@@ -72,7 +72,7 @@ inside_at version chunk (suc count) p offset left place c some reach among =
 -- no chunk reaches into the one behind it
 apart_at : (version chunk count : ℕ) (p : Piece) (offset left place : ℕ) (c d : Chunk) (vsn : List ℕ) (at : ℕ) → 0 < chunk
     → count * chunk < left + chunk
-    → Among c (chunks_at version chunk count p offset left place) → Among d (chunks_at version chunk count p offset left place)
+    → IsAmong c (chunks_at version chunk count p offset left place) → IsAmong d (chunks_at version chunk count p offset left place)
     → ChunkCovers c vsn at → ChunkCovers d vsn at → c.offset ≡ d.offset
 unfolding chunks_at
 apart_at version chunk zero p offset left place c d vsn at some reach one two cover covers = absurd one
@@ -129,7 +129,7 @@ pub record ChunkInside (chunk : ℕ) (p : Piece) (c : Chunk) : Type 0 where
   pub unsummed : c.sum ≡ None
 
 -- every chunk of a piece stands so
-pub chunk_inside : (chunk : ℕ) (p : Piece) (c : Chunk) → 0 < chunk → Among c (chunks_of chunk p) → ChunkInside chunk p c
+pub chunk_inside : (chunk : ℕ) (p : Piece) (c : Chunk) → 0 < chunk → IsAmong c (chunks_of chunk p) → ChunkInside chunk p c
 chunk_inside chunk p c some among =
     let bounds = div_ceil_times p.len chunk some in
     let k = inside_at p.version chunk (chunk_count chunk p.len) p p.offset p.len (p.zone + zone_header) c some bounds.1 among in
@@ -145,8 +145,8 @@ chunk_inside chunk p c some among =
     }
 
 -- two chunks of a piece that share a place are one
-pub chunks_apart : (chunk : ℕ) (p : Piece) (c d : Chunk) (vsn : List ℕ) (place : ℕ) → 0 < chunk → Among c (chunks_of chunk p)
-    → Among d (chunks_of chunk p) → ChunkCovers c vsn place → ChunkCovers d vsn place → c.offset ≡ d.offset
+pub chunks_apart : (chunk : ℕ) (p : Piece) (c d : Chunk) (vsn : List ℕ) (place : ℕ) → 0 < chunk → IsAmong c (chunks_of chunk p)
+    → IsAmong d (chunks_of chunk p) → ChunkCovers c vsn place → ChunkCovers d vsn place → c.offset ≡ d.offset
 chunks_apart chunk p c d vsn place some one two cover covers =
     let bounds = div_ceil_times p.len chunk some in
     apart_at p.version chunk (chunk_count chunk p.len) p p.offset p.len (p.zone + zone_header) c d vsn place some bounds.1 one two cover covers
@@ -159,7 +159,7 @@ chunks_join chunk p some =
 
 -- the only chunk of a piece of one chunk
 pub only_chunk : (p : Piece) → chunk_count p.len p.len ≡ 1
-    → Among {X = Chunk} (record {
+    → IsAmong {X = Chunk} (record {
       offset = p.offset;
       len = p.len;
       vsn = p.vsn;
@@ -178,5 +178,5 @@ only_chunk p one =
       place = p.zone + zone_header + chunk_header p.version;
       sum = None;
     } in
-    subst (λ k. Among (made p.len) (chunks_at p.version p.len k p p.offset p.len (p.zone + zone_header))) (sym one)
+    subst (λ k. IsAmong (made p.len) (chunks_at p.version p.len k p p.offset p.len (p.zone + zone_header))) (sym one)
     (inl (ap made (sym whole)))

@@ -13,8 +13,8 @@ use Rattle.dm_model.specs.declared.state.MountState.{MountState}
 use Rattle.dm_model.specs.declared.state.Origin.{Origin}
 use Rattle.dm_model.specs.declared.state.Origin.TheVariants as origin
 use Rattle.dm_model.specs.declared.state.Side.{Side}
-use Rattle.dm_model.specs.Hashed.{SumsTellApart, hashed_by, parts_of_content}
-use Rattle.dm_model.specs.Step.{Entered, state_after, step}
+use Rattle.dm_model.specs.Hashed.{SumsTellApart, hashed_by_event, parts_of_content}
+use Rattle.dm_model.specs.Step.{RunEntry, state_after, step}
 
 abbrev pub IsVolumeCall : Call → Type 0
 IsVolumeCall (call.Daemon c) = ⊥
@@ -64,9 +64,9 @@ parts_read_by j event.Stop = []
 
 -- the bytes that a read gave and hashed, and the part of the bitfile that it is of, aren't two lists with one length and one sum
 abbrev pub ReadTellsApart : Joint → Event → Type 0
-ReadTellsApart j e = SumsTellApart (parts_read_by j e ++ hashed_by j e)
+ReadTellsApart j e = SumsTellApart (parts_read_by j e ++ hashed_by_event j e)
 
 -- so it is of each read of a run
-abbrev pub ReadsTellApart : Joint → List Entered → Type 0
+abbrev pub ReadsTellApart : Joint → List RunEntry → Type 0
 ReadsTellApart j [] = Unit {0}
 ReadsTellApart j (e ∷ es) = ReadTellsApart j e.event × ReadsTellApart (state_after j (step j e.worker e.event)) es

@@ -25,9 +25,9 @@ use Rattle.dm_model.specs.declared.state.Joint.{Joint}
 use Rattle.dm_model.specs.declared.state.Side.{Side as SideState}
 use Rattle.dm_model.specs.Effects.{after_ending, after_failed_mark, after_healing, after_mark, after_payload, groups_of_component, groups_of_ending, groups_of_mark, groups_of_payload}
 use Rattle.dm_model.specs.Names.{component_name, home_of, home_of_call, made_by, made_by_call, names_of, names_of_call}
-use Rattle.dm_model.specs.Plan.{Plan, if_accepted, illegal_call, illegal_fault, prepared, refusal_of}
+use Rattle.dm_model.specs.Plan.{Plan, if_accepted, illegal_call, illegal_fault, prepared_plan, refusal_of}
 use Rattle.dm_model.specs.SideShare.{side_after_ending, side_after_failed_mark, side_after_mark, side_after_payload, side_without_doubt}
-use Rattle.dm_model.specs.Step.{Stepped, after_call, after_fault, daemon_doubt, landed_doubt, landed_in, looked_in, needs_of, plan_of, state_after, step}
+use Rattle.dm_model.specs.Step.{Stepped, after_call, after_fault, daemon_doubt, doubt_outcome, landing_outcome_in, look_outcome_in, needs_of, plan_of, state_after, step}
 use Rattle.dm_shown.specs.Along.{GoesOn}
 use Rattle.dm_spine.specs.Past.{In}
 use Rattle.dm_spine.proofs.Lists.{in_append}
@@ -139,7 +139,7 @@ opens_if : (o : Option Answer) (y : Opening) (names : List Name) → Within (ope
 opens_if None y names within x h = within x h
 opens_if (Some refusal) y names within x h = absurd h
 
-pub call_looks : (w : ℕ) (j : Joint) (c : Call) → Looks w j (home_of_call c ∷ names_of_call j w c) (prepared (plan_of j c))
+pub call_looks : (w : ℕ) (j : Joint) (c : Call) → Looks w j (home_of_call c ∷ names_of_call j w c) (prepared_plan (plan_of j c))
 call_looks w j c =
     let p = plan_of j c in
     let told = home_of_call c ∷ names_of_call j w c in
@@ -162,8 +162,8 @@ end_as x j k j' k' e f h = subst (λ m. Alike x m k') e (subst (λ m. Alike x j 
 call_decided : (j k j' k' : Joint) (w : ℕ) (c : Call) (a b : Answer) (x : Name) → SameGroups j k → step j w (event.Call c) ≡ Stepped j' a
     → step k w (event.Call c) ≡ Stepped k' b → AllAlike (home_of_call c ∷ names_of_call j w c) j k → Alike x j k → SameEnd x j' k' a b
 call_decided j k j' k' w c a b x keys is_j is_k all alike =
-    let p = prepared (plan_of j c) in
-    let q = prepared (plan_of k c) in
+    let p = prepared_plan (plan_of j c) in
+    let q = prepared_plan (plan_of k c) in
     let same : p ≡ q = plan_same w j k c keys all in
     let done_j = outcome_is (illegal_call (plan_of j c) (needs_of j w c)) (after_call w p j) j' p.answer a is_j in
     let done_k = outcome_is (illegal_call (plan_of k c) (needs_of k w c)) (after_call w q k) k' q.answer b is_k in
@@ -177,8 +177,8 @@ fault_decided : (j k j' k' : Joint) (w : ℕ) (c : Call) (healed checkpointed : 
     → AllAlike (home_of_call c ∷ names_of_call j w c) j k → Alike x j k → SameEnd x j' k' a b
 fault_decided j k j' k' w c healed checkpointed a b x keys is_j is_k all alike =
     let far = healed && checkpointed in
-    let p = prepared (plan_of j c) in
-    let q = prepared (plan_of k c) in
+    let p = prepared_plan (plan_of j c) in
+    let q = prepared_plan (plan_of k c) in
     let same : p ≡ q = plan_same w j k c keys all in
     let done_j = outcome_is (illegal_fault (plan_of j c) (needs_of j w c)) (after_fault w p far j) j' answer.Failed a is_j in
     let done_k = outcome_is (illegal_fault (plan_of k c) (needs_of k w c)) (after_fault w q far k) k' answer.Failed b is_k in
@@ -187,16 +187,16 @@ fault_decided j k j' k' w c healed checkpointed a b x keys is_j is_k all alike =
       end_as x (after_fault w p far j) (after_fault w p far k) j' k' done_j.0 (ap (λ (r : Prepared). after_fault w r far k) same ∙ done_k.0) goes,
     )
 
-landing_answer : (j k : Joint) (c : Component) (q : Option Payload) (a : Answer) → landed_doubt j c q ≡ Stepped k a → a ≡ answer.Landed
+landing_answer : (j k : Joint) (c : Component) (q : Option Payload) (a : Answer) → doubt_outcome j c q ≡ Stepped k a → a ≡ answer.Landed
 landing_answer j k c None a is = cc
 landing_answer j k c (Some q) a is = cc
 
-landing_state : (j k : Joint) (c : Component) (q : Payload) (a : Answer) → landed_doubt j c (Some q) ≡ Stepped k a
+landing_state : (j k : Joint) (c : Component) (q : Payload) (a : Answer) → doubt_outcome j c (Some q) ≡ Stepped k a
     → after_payload (Some q) (after_healing true c j) ≡ k
 landing_state j k c q a is = ap (state_after j) is
 
 landing_decided : (c : Component) (q : Option Payload) (j k j' k' : Joint) (a b : Answer) (x : Name) → SameGroups j k
-    → Within (payload_names q) (component_name c ∷ []) → landed_doubt j c q ≡ Stepped j' a → landed_doubt k c q ≡ Stepped k' b
+    → Within (payload_names q) (component_name c ∷ []) → doubt_outcome j c q ≡ Stepped j' a → doubt_outcome k c q ≡ Stepped k' b
     → AllAlike (component_name c ∷ []) j k → Alike x j k → SameEnd x j' k' a b
 landing_decided c None j k j' k' a b x keys within is_j is_k all alike = cc
 landing_decided c (Some q) j k j' k' a b x keys within is_j is_k all alike =
@@ -225,12 +225,12 @@ group_within : (g : GroupId) (l : Library) → Within (payload_names (doubt_by g
 group_within g None x h = absurd h
 group_within g (Some l) x h = doubted_within g l.0.doubt x h
 
-landed_by : (j k : Joint) (g : GroupId) (o : Option SideState) (a : Answer) → landed_in j g o ≡ Stepped k a
-    → landed_doubt j (component.Group g) (doubt_by g (library_of o)) ≡ Stepped k a
+landed_by : (j k : Joint) (g : GroupId) (o : Option SideState) (a : Answer) → landing_outcome_in j g o ≡ Stepped k a
+    → doubt_outcome j (component.Group g) (doubt_by g (library_of o)) ≡ Stepped k a
 landed_by j k g None a is = cc
 landed_by j k g (Some s) a is = is
 
-looked_by : (j k : Joint) (o : Option SideState) (a : Answer) → looked_in j o ≡ Stepped k a → (j ≡ k) × (a ≡ answer.Looked)
+looked_by : (j k : Joint) (o : Option SideState) (a : Answer) → look_outcome_in j o ≡ Stepped k a → (j ≡ k) × (a ≡ answer.Looked)
 looked_by j k None a is = cc
 looked_by j k (Some s) a is = (ap (state_after j) is, cc)
 
@@ -240,8 +240,8 @@ looked_daemon j k a is = (ap (state_after j) is, cc)
 call_made : (j k j' k' : Joint) (w : ℕ) (c : Call) (a b : Answer) (x : Name) → SameGroups j k → step j w (event.Call c) ≡ Stepped j' a
     → step k w (event.Call c) ≡ Stepped k' b → AllAlike (home_of_call c ∷ names_of_call j w c) j k → In x (made_by_call c a) → Alike x j' k'
 call_made j k j' k' w c a b x keys is_j is_k all made =
-    let p = prepared (plan_of j c) in
-    let q = prepared (plan_of k c) in
+    let p = prepared_plan (plan_of j c) in
+    let q = prepared_plan (plan_of k c) in
     let same : p ≡ q = plan_same w j k c keys all in
     let done_j = outcome_is (illegal_call (plan_of j c) (needs_of j w c)) (after_call w p j) j' p.answer a is_j in
     let done_k = outcome_is (illegal_call (plan_of k c) (needs_of k w c)) (after_call w q k) k' q.answer b is_k in
@@ -265,13 +265,13 @@ event_decided j k j' k' w (event.Fault c healed checkpointed) a b x keys goes is
 event_decided j k j' k' w (event.Landed component.Daemon) a b x keys goes is_j is_k all alike =
     let same : daemon_doubt j ≡ daemon_doubt k = ap (λ (d : DaemonState). option_map (λ r. payload.Daemon r) d.doubt) (all Daemon (inl refl)) in
     landing_decided component.Daemon (daemon_doubt j) j k j' k' a b x keys (doubts_within j.daemon.doubt) is_j
-    (subst (λ (q : Option Payload). landed_doubt k component.Daemon q ≡ Stepped k' b) (sym same) is_k) all alike
+    (subst (λ (q : Option Payload). doubt_outcome k component.Daemon q ≡ Stepped k' b) (sym same) is_k) all alike
 event_decided j k j' k' w (event.Landed (component.Group g)) a b x keys goes is_j is_k all alike =
     let here = library_of (fin.get j.sides g.0) in
     let same : here ≡ library_of (fin.get k.sides g.0) = all (Side g part.Itself) (inl refl) in
     landing_decided (component.Group g) (doubt_by g here) j k j' k' a b x keys (group_within g here)
     (landed_by j j' g (fin.get j.sides g.0) a is_j)
-    (subst (λ (l : Library). landed_doubt k (component.Group g) (doubt_by g l) ≡ Stepped k' b) (sym same) (landed_by k k' g (fin.get k.sides g.0) b is_k)) all alike
+    (subst (λ (l : Library). doubt_outcome k (component.Group g) (doubt_by g l) ≡ Stepped k' b) (sym same) (landed_by k k' g (fin.get k.sides g.0) b is_k)) all alike
 event_decided j k j' k' w (event.Look component.Daemon) a b x keys goes is_j is_k all alike =
     let done_j = looked_daemon j j' a is_j in
     let done_k = looked_daemon k k' b is_k in

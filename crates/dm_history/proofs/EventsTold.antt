@@ -24,8 +24,8 @@ use Rattle.dm_model.specs.declared.state.Joint.{Joint}
 use Rattle.dm_model.specs.declared.state.Side.{Side as SideState}
 use Rattle.dm_model.specs.Effects.{after_ending, after_failed_mark, after_healing, after_mark, after_opening, after_payload}
 use Rattle.dm_model.specs.Names.{component_name, home_of, home_of_call, made_by, made_by_call, names_of, names_of_call}
-use Rattle.dm_model.specs.Plan.{Plan, answer_of, if_accepted, illegal_call, illegal_fault, prepared, refusal_of}
-use Rattle.dm_model.specs.Step.{Illegal, Outcome, Stepped, after_call, after_fault, daemon_doubt, group_doubt, landed_doubt, landed_in, looked_in, needs_of, outcome_of, plan_of, state_after, step}
+use Rattle.dm_model.specs.Plan.{Plan, answer_of, if_accepted, illegal_call, illegal_fault, prepared_plan, refusal_of}
+use Rattle.dm_model.specs.Step.{Illegal, Outcome, Stepped, after_call, after_fault, daemon_doubt, group_doubt, doubt_outcome, landing_outcome_in, look_outcome_in, needs_of, outcome_of, plan_of, state_after, step}
 use Rattle.dm_shown.specs.Along.{GoesOn}
 use Rattle.dm_spine.specs.Past.{In}
 use Rattle.dm_spine.proofs.Lists.{in_left}
@@ -78,12 +78,12 @@ far_away x true q away h = away h
 far_away x false q away h = absurd h
 
 faulted_stays : (w : ℕ) (j : Joint) (x : Name) (told made : List Name) (p : Plan) (far : Bool) → Told w j told made p → Away x told
-    → Alike x j (after_fault w (prepared p) far j)
+    → Alike x j (after_fault w (prepared_plan p) far j)
 faulted_stays w j x told made p far is away =
     let o = refusal_of p in
     let ended = after_ending w p.ends j in
     let failed = after_failed_mark (if_accepted o mark.Nothing p.mark) ended in
-    let doubted = after_fault w (prepared p) far j in
+    let doubted = after_fault w (prepared_plan p) far j in
     alike_then x j ended doubted (ending_stays w p.ends j x (λ h. away (is.ends x h)))
     (alike_then x ended failed doubted
     (failed_mark_stays w (if_accepted o mark.Nothing p.mark) ended x (marks_away x w o p.mark (λ h. away (is.marks x h))))
@@ -105,7 +105,7 @@ outcome_is (Some g) after k b a is = absurd (illegal g k a is)
 
 -- what a step of a component that landed speaks of
 landing_stays : (c : Component) (q : Option Payload) (j k : Joint) (a : Answer) (x : Name) → Within (payload_names q) (component_name c ∷ [])
-    → landed_doubt j c q ≡ Stepped k a → Away x (component_name c ∷ []) → Alike x j k
+    → doubt_outcome j c q ≡ Stepped k a → Away x (component_name c ∷ []) → Alike x j k
 landing_stays c None j k a x within is away = cc
 landing_stays c (Some q) j k a x within is away =
     let healed = after_healing true c j in
@@ -121,12 +121,12 @@ group_doubts : (g : GroupId) (o : Option GroupRecord) → Within (payload_names 
 group_doubts g None x h = absurd h
 group_doubts g (Some r) x h = h
 
-landed_stays : (g : GroupId) (o : Option SideState) (j k : Joint) (a : Answer) (x : Name) → landed_in j g o ≡ Stepped k a
+landed_stays : (g : GroupId) (o : Option SideState) (j k : Joint) (a : Answer) (x : Name) → landing_outcome_in j g o ≡ Stepped k a
     → Away x (component_name (component.Group g) ∷ []) → Alike x j k
 landed_stays g None j k a x is away = cc
 landed_stays g (Some s) j k a x is away = landing_stays (component.Group g) (group_doubt g s) j k a x (group_doubts g s.group.doubt) is away
 
-looked_stays : (o : Option SideState) (j k : Joint) (a : Answer) (x : Name) → looked_in j o ≡ Stepped k a → Alike x j k
+looked_stays : (o : Option SideState) (j k : Joint) (a : Answer) (x : Name) → look_outcome_in j o ≡ Stepped k a → Alike x j k
 looked_stays None j k a x is = cc
 looked_stays (Some s) j k a x is = subst (λ m. Alike x j m) (ap (state_after j) is) (alike_self x j)
 
@@ -137,14 +137,14 @@ pub event_stays : (j k : Joint) (w : ℕ) (e : Event) (a : Answer) (x : Name) �
 event_stays j k w (event.Call c) a x goes is away =
     let p = plan_of j c in
     let told = home_of_call c ∷ names_of_call j w c in
-    let done = outcome_is (illegal_call p (needs_of j w c)) (after_call w (prepared p) j) k (prepared p).answer a is in
+    let done = outcome_is (illegal_call p (needs_of j w c)) (after_call w (prepared_plan p) j) k (prepared_plan p).answer a is in
     let away' : Away x (told ++ made_by_call c (answer_of (refusal_of p) p.answer)) = λ h. away (subst (λ b. In x (told ++ made_by_call c b)) done.1 h) in
     subst (λ m. Alike x j m) done.0 (called_stays w j x c told p (refusal_of p) (call_told w j c) away')
 event_stays j k w (event.Fault c healed checkpointed) a x goes is away =
     let p = plan_of j c in
     let told = home_of_call c ∷ names_of_call j w c in
     let far = healed && checkpointed in
-    let done = outcome_is (illegal_fault p (needs_of j w c)) (after_fault w (prepared p) far j) k answer.Failed a is in
+    let done = outcome_is (illegal_fault p (needs_of j w c)) (after_fault w (prepared_plan p) far j) k answer.Failed a is in
     subst (λ m. Alike x j m) done.0 (faulted_stays w j x told (made_by_call c p.answer) p far (call_told w j c) (λ h. away (in_left x told [] h)))
 event_stays j k w (event.Landed component.Daemon) a x goes is away =
     landing_stays component.Daemon (daemon_doubt j) j k a x (daemon_doubts j j.daemon.doubt) is away

@@ -20,9 +20,9 @@ use Rattle.dm_model.specs.declared.plan.Prepared.{Prepared}
 use Rattle.dm_model.specs.declared.state.Joint.{Joint}
 use Rattle.dm_model.specs.declared.state.Side.{Side as SideState}
 use Rattle.dm_model.specs.Effects.{after_ending, after_failed_mark, after_healing, after_mark, after_payload, at_each, groups_of_component, groups_of_ending, groups_of_mark, groups_of_opening, groups_of_payload}
-use Rattle.dm_model.specs.Plan.{illegal_call, illegal_fault, prepared}
+use Rattle.dm_model.specs.Plan.{illegal_call, illegal_fault, prepared_plan}
 use Rattle.dm_model.specs.SideShare.{side_after_ending, side_after_failed_mark, side_after_mark, side_after_opening, side_after_payload, side_after_stop, side_doubting, side_without_doubt}
-use Rattle.dm_model.specs.Step.{after_call, after_fault, daemon_doubt, group_doubt, landed_doubt, landed_in, looked_in, needs_of, outcome_of, plan_of, state_after, step}
+use Rattle.dm_model.specs.Step.{after_call, after_fault, daemon_doubt, group_doubt, doubt_outcome, landing_outcome_in, look_outcome_in, needs_of, outcome_of, plan_of, state_after, step}
 use Rattle.dm_history.specs.Alike.{SameGroups}
 use Rattle.dm_history.specs.History.{joint_after, state_seen}
 use Rattle.dm_history.proofs.PartsGo.{keys_stay}
@@ -58,17 +58,17 @@ outcome_groups : (g : Option Guard) (j after : Joint) (a : Answer) → SameGroup
 outcome_groups None j after a same q = same q
 outcome_groups (Some g) j after a same q = refl
 
-landing_groups : (j : Joint) (c : Component) (o : Option Payload) → SameGroups j (state_after j (landed_doubt j c o))
+landing_groups : (j : Joint) (c : Component) (o : Option Payload) → SameGroups j (state_after j (doubt_outcome j c o))
 landing_groups j c None q = refl
 landing_groups j c (Some p) q =
     let healed = after_healing true c j in
     sym (each_keys (side_after_payload (Some p)) (groups_of_payload (Some p)) healed.sides q ∙ each_keys (side_without_doubt true) (groups_of_component c) j.sides q)
 
-landed_groups : (j : Joint) (g : GroupId) (o : Option SideState) → SameGroups j (state_after j (landed_in j g o))
+landed_groups : (j : Joint) (g : GroupId) (o : Option SideState) → SameGroups j (state_after j (landing_outcome_in j g o))
 landed_groups j g None q = refl
 landed_groups j g (Some s) q = landing_groups j (component.Group g) (group_doubt g s) q
 
-looked_groups : (j : Joint) (o : Option SideState) → SameGroups j (state_after j (looked_in j o))
+looked_groups : (j : Joint) (o : Option SideState) → SameGroups j (state_after j (look_outcome_in j o))
 looked_groups j None q = refl
 looked_groups j (Some s) q = refl
 
@@ -78,11 +78,11 @@ mapped_there f (Some s) = refl
 
 event_groups : (j : Joint) (w : ℕ) (e : Event) → SameGroups j (state_after j (step j w e))
 event_groups j w (event.Call c) q =
-    outcome_groups (illegal_call (plan_of j c) (needs_of j w c)) j (after_call w (prepared (plan_of j c)) j) (prepared (plan_of j c)).answer
-    (call_groups w (prepared (plan_of j c)) j) q
+    outcome_groups (illegal_call (plan_of j c) (needs_of j w c)) j (after_call w (prepared_plan (plan_of j c)) j) (prepared_plan (plan_of j c)).answer
+    (call_groups w (prepared_plan (plan_of j c)) j) q
 event_groups j w (event.Fault c healed checkpointed) q =
-    outcome_groups (illegal_fault (plan_of j c) (needs_of j w c)) j (after_fault w (prepared (plan_of j c)) (healed && checkpointed) j) answer.Failed
-    (fault_groups w (prepared (plan_of j c)) (healed && checkpointed) j) q
+    outcome_groups (illegal_fault (plan_of j c) (needs_of j w c)) j (after_fault w (prepared_plan (plan_of j c)) (healed && checkpointed) j) answer.Failed
+    (fault_groups w (prepared_plan (plan_of j c)) (healed && checkpointed) j) q
 event_groups j w (event.Landed component.Daemon) q = landing_groups j component.Daemon (daemon_doubt j) q
 event_groups j w (event.Landed (component.Group g)) q = landed_groups j g (fin.get j.sides g.0) q
 event_groups j w (event.Look component.Daemon) q = refl

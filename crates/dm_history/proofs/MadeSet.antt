@@ -45,9 +45,9 @@ use Rattle.dm_model.specs.declared.state.Side.{Side as SideState}
 use Rattle.dm_model.specs.DaemonCalls.{begin_put, daemon_plan}
 use Rattle.dm_model.specs.Effects.{after_opening, at_each}
 use Rattle.dm_model.specs.Files.{File, file_at}
-use Rattle.dm_model.specs.GroupCalls.{abort, add_volume, asking_group, commit, drop_move, free, free_of, group_plan, group_time, merge_first, merge_to, mount_chunk, mount_chunk_of, mount_piece, mount_piece_of, move_done, piece_at, reuse, reuse_first, unmount}
+use Rattle.dm_model.specs.GroupCalls.{abort, add_volume, group_healing_plan, commit, drop_move, free, free_of, group_plan, group_time, merge_first, merge_to, mount_chunk, mount_chunk_of, mount_piece, mount_piece_of, move_done, piece_at, reuse, reuse_first, unmount}
 use Rattle.dm_model.specs.Names.{copy_name, made_by_call, made_by_daemon, made_by_group, mount_name}
-use Rattle.dm_model.specs.Plan.{Plan, answer_of, if_accepted, prepared}
+use Rattle.dm_model.specs.Plan.{Plan, answer_of, if_accepted, prepared_plan}
 use Rattle.dm_model.specs.Guards.{first_true}
 use Rattle.dm_model.specs.SideShare.{side_after_opening, source_of, target_of}
 use Rattle.dm_model.specs.Step.{plan_of, side_plan}
@@ -79,7 +79,7 @@ module _ (makes : Answer → List Name) where
 
   -- what the answer of a plan makes is what its opening sets
   abbrev pub Makes : Plan → Type 0
-  Makes p = (x : Name) → In x (makes (prepared p).answer) → Sets x (prepared p).opens
+  Makes p = (x : Name) → In x (makes (prepared_plan p).answer) → Sets x (prepared_plan p).opens
 
   chosen : (x : Name) (a : Answer) (o : Opening) → (In x (makes a) → Sets x o) → (l : List (Bool × Answer)) → NoneMade l
       → In x (makes (answer_of (first_true l) a)) → Sets x (if_accepted (first_true l) opening.Nothing o)
@@ -118,8 +118,8 @@ either_makes g q p false a b x h = b x h
 chunk_makes : (g : GroupId) (x : Group) (b : Bfid) (offset m : ℕ) (o : Option BitfileRow) → GroupMakes g (mount_chunk g x b offset m o)
 chunk_makes g x b offset m None = chunk_mounted g x b m None
 chunk_makes g x b offset m (Some row) =
-    either_makes g (asking_group g answer.AtEnd) (mount_chunk_of g x b m (chunk_at offset row.chunks)) (nat_eq offset row.len)
-    (makes_as (made_by_group g) (asking_group g answer.AtEnd) tt (λ y h. absurd h)) (chunk_mounted g x b m (chunk_at offset row.chunks))
+    either_makes g (group_healing_plan g answer.AtEnd) (mount_chunk_of g x b m (chunk_at offset row.chunks)) (nat_eq offset row.len)
+    (makes_as (made_by_group g) (group_healing_plan g answer.AtEnd) tt (λ y h. absurd h)) (chunk_mounted g x b m (chunk_at offset row.chunks))
 
 unmount_makes : (g : GroupId) (m : ℕ) (o : Option Mounted) → GroupMakes g (unmount g m o)
 unmount_makes g m None = makes_as (made_by_group g) (unmount g m None) tt (λ y h. absurd h)
@@ -223,7 +223,7 @@ side_makes : (g : GroupId) (c : GroupCall) (o : Option SideState) → GroupMakes
 side_makes g c None = makes_as (made_by_group g) (side_plan g c None) tt (λ y h. absurd h)
 side_makes g c (Some s) = group_makes g s.group c
 
-pub call_makes : (j : Joint) (c : Call) (x : Name) → In x (made_by_call c (prepared (plan_of j c)).answer) → Sets x (prepared (plan_of j c)).opens
+pub call_makes : (j : Joint) (c : Call) (x : Name) → In x (made_by_call c (prepared_plan (plan_of j c)).answer) → Sets x (prepared_plan (plan_of j c)).opens
 call_makes j (call.Daemon c) x h = daemon_makes j.daemon c x h
 call_makes j (call.Group g c) x h = side_makes g c (fin.get j.sides g.0) x h
 call_makes j (call.Volume g vsn c) x h = absurd h

@@ -45,11 +45,11 @@ use Rattle.dm_model.specs.declared.state.Reusing.{Reusing}
 use Rattle.dm_model.specs.declared.state.Side.{Side as SideState}
 use Rattle.dm_model.specs.declared.state.Worker.{Worker as WorkerState}
 use Rattle.dm_model.specs.DaemonShare.{daemon_after_ending, daemon_after_opening, daemon_after_payload, daemon_doubting, daemon_without_doubt}
-use Rattle.dm_model.specs.Effects.{after_ending, after_failed_mark, after_healing, after_mark, after_opening, after_payload, at_each, doubting, groups_of_ending, groups_of_mark, with_recall, without_recall, worker_or, worker_with_read, workers_after_ending, workers_after_mark, workers_after_opening}
+use Rattle.dm_model.specs.Effects.{after_ending, after_failed_mark, after_healing, after_mark, after_opening, after_payload, at_each, joint_with_doubt, groups_of_ending, groups_of_mark, with_recall, without_recall, worker_or, worker_with_read, workers_after_ending, workers_after_mark, workers_after_opening}
 use Rattle.dm_model.specs.GroupShare.{group_after_ending, group_after_opening, group_after_payload, group_doubting, group_without_doubt}
 use Rattle.dm_model.specs.Names.{mount_and_owner_in, mount_name}
 use Rattle.dm_model.specs.SideShare.{copies_mounted, copies_unmounted, copies_unmounted_if, images_after_step, images_labelled, images_relabelled, is_bound, known_by, new_mount, reservation_by, side_after_ending, side_after_failed_mark, side_after_mark, side_after_opening, side_after_payload, side_doubting, side_without_doubt, source_of, target_of, with_piece_mount, without_known, without_piece_mount}
-use Rattle.dm_rules.specs.Known.{Known, forgotten, written}
+use Rattle.dm_rules.specs.Known.{Known, known_without_range, known_with_write}
 use Rattle.dm_rules.proofs.Knowledge.{get-forgotten_in, get-forgotten_out, get-written_in, get-written_out, inside, known_after_write, lies, outside}
 use Rattle.dm_spine.specs.Past.{In}
 use Rattle.dm_history.specs.Alike.{Alike, ForgetsOnly, PartsAlike, SameGroups, library_of, mount_of}
@@ -120,10 +120,10 @@ image_goes f shrinks m n w v h =
 abbrev Less : Known → Known → Type 0
 Less i k = (place b : ℕ) → fin.get k place ≡ Some b → fin.get i place ≡ Some b
 
-written_less : (place : ℕ) (zone : List ℕ) (i k : Known) → Less i k → Less (written place zone i) (written place zone k)
+written_less : (place : ℕ) (zone : List ℕ) (i k : Known) → Less i k → Less (known_with_write place zone i) (known_with_write place zone k)
 written_less place zone i k less p b h =
     elim (known_after_write place zone k p b h) [
-      | inl here ↦ ap (fin.get (written place zone i)) here.2
+      | inl here ↦ ap (fin.get (known_with_write place zone i)) here.2
           ∙ (get-written_in place zone i here.0 here.1 ∙ ap (λ (x : ℕ). Some x) (sym here.3))
       | inr away ↦ get-written_out place zone i p away.0 ∙ less p b away.1
     ]
@@ -131,17 +131,17 @@ written_less place zone i k less p b h =
 none_some : {P : Type 0} (b : ℕ) → None ≡ Some b → P
 none_some b h = cc
 
-forgotten_less : (place n : ℕ) (i k : Known) → Less i k → Less (forgotten place n i) (forgotten place n k)
+forgotten_less : (place n : ℕ) (i k : Known) → Less i k → Less (known_without_range place n i) (known_without_range place n k)
 forgotten_less place n i k less p b h =
     elim (lies place n p) [
       | inside from below ↦ none_some b (sym (get-forgotten_in place n k p from below) ∙ h)
       | outside out ↦ get-forgotten_out place n i p out ∙ less p b (sym (get-forgotten_out place n k p out) ∙ h)
     ]
 
-written_shrinks : (place : ℕ) (zone : List ℕ) → Shrinks (known_by (written place zone))
+written_shrinks : (place : ℕ) (zone : List ℕ) → Shrinks (known_by (known_with_write place zone))
 written_shrinks place zone i k h = (h.0, written_less place zone i.known k.known h.1)
 
-forgotten_shrinks : (place n : ℕ) → Shrinks (known_by (forgotten place n))
+forgotten_shrinks : (place n : ℕ) → Shrinks (known_by (known_without_range place n))
 forgotten_shrinks place n i k h = (h.0, forgotten_less place n i.known k.known h.1)
 
 without_shrinks : Shrinks without_known
@@ -354,14 +354,14 @@ doubted_goes q (part.Copy c) s t h = h
 doubted_goes q (part.Mount m) s t h = h
 
 side_doubting_goes : (q : Option Payload) (j k : Joint) (h : GroupId) (p : Part) → SameGroups j k → Alike (Side h p) j k
-    → Alike (Side h p) (doubting q j) (doubting q k)
+    → Alike (Side h p) (joint_with_doubt q j) (joint_with_doubt q k)
 side_doubting_goes None j k h p keys same = same
 side_doubting_goes (Some (payload.Daemon r)) j k h p keys same = same
 side_doubting_goes (Some (payload.Group g r)) j k h p keys same =
     one_goes p (side_doubting (Some (payload.Group g r))) h g j.sides k.sides keys same
     (λ here s t is_s is_t alike. doubted_goes (Some (payload.Group g r)) p s t alike)
 
-pub doubting_goes : (q : Option Payload) (j k : Joint) (x : Name) → SameGroups j k → Alike x j k → Alike x (doubting q j) (doubting q k)
+pub doubting_goes : (q : Option Payload) (j k : Joint) (x : Name) → SameGroups j k → Alike x j k → Alike x (joint_with_doubt q j) (joint_with_doubt q k)
 doubting_goes q j k Daemon keys h = ap (daemon_doubting q) h
 doubting_goes q j k (Worker v) keys h = h
 doubting_goes q j k (Side g p) keys h = side_doubting_goes q j k g p keys h

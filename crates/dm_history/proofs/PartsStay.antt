@@ -42,7 +42,7 @@ use Rattle.dm_model.specs.declared.state.Reusing.{Reusing}
 use Rattle.dm_model.specs.declared.state.Side.{Side as SideState}
 use Rattle.dm_model.specs.declared.state.Worker.{Worker as WorkerState}
 use Rattle.dm_model.specs.DaemonShare.{daemon_after_ending, daemon_after_opening}
-use Rattle.dm_model.specs.Effects.{after_ending, after_failed_mark, after_healing, after_mark, after_opening, after_payload, at_each, doubting, groups_of_ending, groups_of_mark, groups_of_opening, with_recall, without_recall, worker_or, worker_with_read, workers_after_ending, workers_after_mark, workers_after_opening}
+use Rattle.dm_model.specs.Effects.{after_ending, after_failed_mark, after_healing, after_mark, after_opening, after_payload, at_each, joint_with_doubt, groups_of_ending, groups_of_mark, groups_of_opening, with_recall, without_recall, worker_or, worker_with_read, workers_after_ending, workers_after_mark, workers_after_opening}
 use Rattle.dm_model.specs.Names.{component_name, copy_name, mount_and_owner, mount_and_owner_in, mount_name, owner_of, owner_of_origin}
 use Rattle.dm_model.specs.SideShare.{copies_mounted, copies_unmounted, copies_unmounted_if, images_after_step, images_relabelled, side_after_ending, side_after_failed_mark, side_after_mark, side_after_opening, side_after_payload, side_doubting, side_without_doubt, without_known}
 use Rattle.dm_spine.specs.Past.{In}
@@ -299,7 +299,7 @@ doubted_part q (part.Volume v) s differ = less_self (fin.get s.images v.0)
 doubted_part q (part.Copy c) s differ = refl
 doubted_part q (part.Mount m) s differ = refl
 
-pub doubting_stays : (q : Option Payload) (j : Joint) (x : Name) → (In x (payload_names q) → ⊥) → Alike x j (doubting q j)
+pub doubting_stays : (q : Option Payload) (j : Joint) (x : Name) → (In x (payload_names q) → ⊥) → Alike x j (joint_with_doubt q j)
 doubting_stays None j x away = alike_self x j
 doubting_stays (Some (payload.Daemon r)) j Daemon away = absurd (away (inl refl))
 doubting_stays (Some (payload.Daemon r)) j (Worker v) away = refl

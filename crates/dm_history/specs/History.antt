@@ -8,8 +8,8 @@ use Rattle.std.specs.List.{list_any}
 use Rattle.dm_model.specs.declared.entry.Entry.{Entry}
 use Rattle.dm_model.specs.declared.entry.Name.{Name}
 use Rattle.dm_model.specs.declared.state.Joint.{Joint}
-use Rattle.dm_model.specs.Names.{ended_by, entered, fixed_names, home_of, is_about, made_by, maker_of, names_of, same_name}
-use Rattle.dm_model.specs.Step.{Entered, Stepped, state_after, step}
+use Rattle.dm_model.specs.Names.{ended_by, run_entry_of, fixed_names, home_of, is_about, made_by, maker_of, names_of, same_name}
+use Rattle.dm_model.specs.Step.{RunEntry, Stepped, state_after, step}
 use Rattle.dm_invariant.specs.Opened.{Opened}
 use Rattle.dm_shown.specs.Along.{GoesOn}
 use Rattle.dm_spine.specs.Past.{In, IsPart, Legal, Meaning, chain}
@@ -29,9 +29,9 @@ state_seen j [] = j
 state_seen j (a ∷ xs) = state_seen (joint_after j a.1) xs
 
 -- the entries of a past as those of a run
-abbrev pub run_of : List (ℕ × Entry) → List Entered
+abbrev pub run_of : List (ℕ × Entry) → List RunEntry
 run_of [] = []
-run_of (a ∷ xs) = entered a.1 ∷ run_of xs
+run_of (a ∷ xs) = run_entry_of a.1 ∷ run_of xs
 
 -- the event is legal in the state, the answer is the machine's, and the entry names all that the event is about there
 pub record Taken (j : Joint) (e : Entry) : Type 0 where

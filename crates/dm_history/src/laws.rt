@@ -8,12 +8,12 @@ ghost use Rattle.dm_model.specs.declared.entry.Name.{Name};
 ghost use Rattle.dm_model.specs.declared.state.Joint.{Joint};
 ghost use Rattle.dm_model.specs.Hashed.{NoCollision};
 ghost use Rattle.dm_model.specs.Names.{home_of, made_by, names_of};
-ghost use Rattle.dm_model.specs.Project.{plain_run, projected};
+ghost use Rattle.dm_model.specs.Project.{plain_run, run_steps};
 ghost use Rattle.dm_model.specs.Step.{Run, Stepped, step};
-ghost use Rattle.dm_invariant.specs.Kept.{Kept};
+ghost use Rattle.dm_invariant.specs.Kept.{InvariantHolds};
 ghost use Rattle.dm_invariant.specs.Opened.{Opened};
 ghost use Rattle.dm_invariant.specs.Sound.{Sound};
-ghost use Rattle.dm_invariant.specs.StandsFor.{plain_of, shown};
+ghost use Rattle.dm_invariant.specs.StandsFor.{plain_of, shown_namespace};
 ghost use Rattle.dm_shown.specs.Along.{GoesOn, KeptAlong};
 ghost use Rattle.dm_shown.specs.There.{RequestThere};
 ghost use Rattle.dm_spine.specs.Past.{In, IsPart, Lawful, Legal, Rises, chain};
@@ -66,7 +66,7 @@ pub fn past_kept()
     ensures along { (begun : Begun) (xs : List (ℕ × Entry)) → Opened begun.opened → Rises 0 xs → Legal history begun xs
         → NoCollision begun.opened (run_of xs) → KeptAlong begun.opened (run_of xs) }
     ensures kept { (begun : Begun) (xs : List (ℕ × Entry)) → Opened begun.opened → Rises 0 xs → Legal history begun xs
-        → NoCollision begun.opened (run_of xs) → Kept (state_seen begun.opened xs) }
+        → NoCollision begun.opened (run_of xs) → InvariantHolds (state_seen begun.opened xs) }
     ensures sound { (begun : Begun) (xs : List (ℕ × Entry)) → Opened begun.opened → Rises 0 xs → Legal history begun xs
         → NoCollision begun.opened (run_of xs) → Sound (state_seen begun.opened xs) }
     ensures there { (begun : Begun) (xs : List (ℕ × Entry)) → Opened begun.opened → Rises 0 xs → Legal history begun xs
@@ -74,7 +74,7 @@ pub fn past_kept()
         → EachRow (state_seen begun.opened xs).daemon.requests (λ n r. RequestThere (state_seen begun.opened xs) r) }
     ensures shown { (begun : Begun) (xs : List (ℕ × Entry)) → Opened begun.opened → Rises 0 xs → Legal history begun xs
         → NoCollision begun.opened (run_of xs)
-        → plain_of (state_seen begun.opened xs) ≡ shown (plain_run (projected begun.opened (run_of xs)) (plain_of begun.opened)) }
+        → plain_of (state_seen begun.opened xs) ≡ shown_namespace (plain_run (run_steps begun.opened (run_of xs)) (plain_of begun.opened)) }
 {}
 
 /// Of two legal pasts, where one is a part of the other, the states after them are alike at each name that the smaller has as fixed or

@@ -4,7 +4,7 @@ use Rattle.std.specs.FinMap as map
 use Rattle.dm_durable.specs.declared.daemon.Inode.{Inode}
 use Rattle.dm_durable.specs.Tables.{Numbered}
 use Rattle.dm_durable.specs.Inodes.{bitfile_of, bitfile_made, is_bitfile, with_contents, as_ended}
-use Rattle.dm_rules.specs.Numbers.{narrowed}
+use Rattle.dm_rules.specs.Numbers.{as_word}
 use Rattle.dm_tables.specs.Rows.{adjust}
 use Rattle.dm_tables.specs.Totals.{total}
 
@@ -35,7 +35,7 @@ abbrev pub KeepsCounts : Numbered ℕ → Numbered ℕ → Type 0
 KeepsCounts old new = (b : ℕ) → IsSome (map.get old b) → IsSome (map.get new b)
 
 abbrev pub raised : ℕ → ℕ
-raised n = narrowed (n + 1)
+raised n = as_word (n + 1)
 
 abbrev pub lowered : ℕ → ℕ
 lowered n = n - 1

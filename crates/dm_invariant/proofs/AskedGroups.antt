@@ -7,20 +7,20 @@ use Rattle.dm_durable.specs.declared.daemon.Entry.{Entry}
 use Rattle.dm_durable.specs.DaemonConditions.{OneOrTwo}
 use Rattle.dm_durable.specs.Entries.{asks, has_stored, is_stored}
 use Rattle.dm_model.specs.Files.{asked_by}
-use Rattle.dm_invariant.specs.Among.{Among}
+use Rattle.dm_invariant.specs.Among.{IsAmong}
 use Rattle.dm_invariant.proofs.Lists.{among_mapped, mapped_among, passing, one_passes, each_passes}
 
 -- a group of this number is among those
 pub record NumberAmong (g : ℕ) (groups : List GroupId) : Type 0 where
   pub group : GroupId
-  pub among : Among group groups
+  pub among : IsAmong group groups
   pub same : group.0 ≡ g
 
 -- a number among one group is that of the group
 pub among_one : (g : ℕ) (h : GroupId) → NumberAmong g (h ∷ []) → g ≡ h.0
 among_one g h is = at is.among
   where
-    at : Among is.group (h ∷ []) → g ≡ h.0
+    at : IsAmong is.group (h ∷ []) → g ≡ h.0
     at (inl e) = sym is.same ∙ ap (λ (x : GroupId). x.0) e
     at (inr none) = absurd none
 
@@ -36,7 +36,7 @@ number_later g h rest is = record { group = is.group; among = inr is.among; same
 pub among_cons : (g : ℕ) (h : GroupId) (rest : List GroupId) → NumberAmong g (h ∷ rest) → (g ≡ h.0) ⊎ NumberAmong g rest
 among_cons g h rest is = at is.among
   where
-    at : Among is.group (h ∷ rest) → (g ≡ h.0) ⊎ NumberAmong g rest
+    at : IsAmong is.group (h ∷ rest) → (g ≡ h.0) ⊎ NumberAmong g rest
     at (inl e) = inl (sym is.same ∙ ap (λ (x : GroupId). x.0) e)
     at (inr among) = inr (record { group = is.group; among = among; same = is.same })
 
@@ -47,7 +47,7 @@ asked_among e g is =
     record { group = c.0.group; among = among_mapped (λ (c : AskedCopy). c.group) c.0 e.copies c.1; same = eqb-true c.0.group.0 g c.2 }
 
 -- the copy of a group that is asked
-copy_of : (e : Entry) (g : ℕ) → NumberAmong g (asked_by (Some e)) → (c : AskedCopy) × Among c e.copies × (nat_eq c.group.0 g ≡ true)
+copy_of : (e : Entry) (g : ℕ) → NumberAmong g (asked_by (Some e)) → (c : AskedCopy) × IsAmong c e.copies × (nat_eq c.group.0 g ≡ true)
 copy_of e g is =
     let c = mapped_among (λ (c : AskedCopy). c.group) is.group e.copies is.among in
     (c.0, c.1, eq-eqb c.0.group.0 g (ap (λ (h : GroupId). h.0) c.2 ∙ is.same))

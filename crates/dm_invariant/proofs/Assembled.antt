@@ -21,10 +21,10 @@ use Rattle.dm_model.specs.Files.{asked_by}
 use Rattle.dm_model.specs.declared.state.Image.{Image}
 use Rattle.dm_model.specs.declared.state.Joint.{Joint}
 use Rattle.dm_model.specs.declared.state.Side.{Side}
-use Rattle.dm_invariant.specs.Among.{Among}
-use Rattle.dm_invariant.specs.Assemble.{known_on, bytes_and, joined_from, assembled_of, assembled, assembled_in, ChunkKnown}
+use Rattle.dm_invariant.specs.Among.{IsAmong}
+use Rattle.dm_invariant.specs.Assemble.{known_on, bytes_and, joined_from, assembled_bytes_of, assembled_bytes, assembled_bytes_in, ChunkKnown}
 use Rattle.dm_invariant.specs.StandsFor.{copy_or, first_copy}
-use Rattle.dm_invariant.specs.Kept.{Kept}
+use Rattle.dm_invariant.specs.Kept.{InvariantHolds}
 use Rattle.dm_invariant.proofs.Options.{value_of}
 use Rattle.dm_invariant.proofs.AskedGroups.{first_asked, asked_stored}
 use Rattle.std.proofs.lemmas.Option.{same_Some, cond_some}
@@ -43,7 +43,7 @@ part_and_rest bytes offset from n at =
 
 -- the chunks from an offset on give the bytes from there on
 joined_content : (images : Named Image) (bytes : List ℕ) (from end : ℕ) (cs : List Chunk) → Joins from cs end
-    → ((c : Chunk) → Among c cs → ChunkKnown images bytes c) → length bytes ≡ end
+    → ((c : Chunk) → IsAmong c cs → ChunkKnown images bytes c) → length bytes ≡ end
     → joined_from images from end cs ≡ Some (drop from bytes)
 joined_content images bytes from end [] joins known whole =
     ap (λ b. cond b (Some []) None) (eq-eqb from end joins) ∙ ap Some (sym (drop_all from bytes (omega (arith, joins, whole))))
@@ -57,7 +57,7 @@ joined_content images bytes from end (c ∷ cs) joins known whole =
 
 -- the chunks of a bitfile's row
 assembled_content : (images : Named Image) (row : BitfileRow) (bytes : List ℕ) → Joins 0 row.chunks row.len
-    → ((c : Chunk) → Among c row.chunks → ChunkKnown images bytes c) → length bytes ≡ row.len
+    → ((c : Chunk) → IsAmong c row.chunks → ChunkKnown images bytes c) → length bytes ≡ row.len
     → joined_from images 0 row.len row.chunks ≡ Some bytes
 assembled_content images row bytes joins known whole = joined_content images bytes 0 row.len row.chunks joins known whole
 
@@ -102,7 +102,7 @@ parts true (Some x) (Some y) whole e = record {
 pub record JoinedKnown (images : Named Image) (bytes : List ℕ) (from end : ℕ) (cs : List Chunk) : Type 0 where
   pub joins : Joins from cs end
   pub whole : length bytes ≡ end
-  pub known : (c : Chunk) → Among c cs → ChunkKnown images bytes c
+  pub known : (c : Chunk) → IsAmong c cs → ChunkKnown images bytes c
 
 -- the bytes of the first of them end before the end
 part_within : (x y bytes : List ℕ) (from n : ℕ) → from ≤ length bytes → length x ≡ n → x ++ y ≡ drop from bytes → from + n ≤ length bytes
@@ -152,15 +152,15 @@ assembled_known images row bytes is = joined_known images bytes 0 row.len row.ch
 -- the copy of a bitfile that a group has is its content
 copy_is_content : (g : ℕ) (entries : Numbered Entry) (contents : Numbered (List ℕ)) (volumes : Named VolumeRow) (s : Side) (b : ℕ) (row : BitfileRow)
     → BitfileKept g entries contents volumes s.images b row → get s.group.tables.bitfiles b ≡ Some row
-    → (bytes : List ℕ) × (assembled s b ≡ Some bytes) × (get contents b ≡ Some bytes) × (length bytes ≡ row.len)
+    → (bytes : List ℕ) × (assembled_bytes s b ≡ Some bytes) × (get contents b ≡ Some bytes) × (length bytes ≡ row.len)
 copy_is_content g entries contents volumes s b row f is =
-    (f.bytes, ap (assembled_of s.images) is ∙ assembled_content s.images row f.bytes f.joins f.known f.whole, f.content, f.whole)
+    (f.bytes, ap (assembled_bytes_of s.images) is ∙ assembled_content s.images row f.bytes f.joins f.known f.whole, f.content, f.whole)
 
 -- and has the length of its entry
 pub copy_of_entry : (g : ℕ) (entries : Numbered Entry) (contents : Numbered (List ℕ)) (volumes : Named VolumeRow) (s : Side) (b : ℕ) (e : Entry)
     → EachRow s.group.tables.bitfiles (BitfileKept g entries contents volumes s.images) → get entries b ≡ Some e
     → IsSome (get s.group.tables.bitfiles b)
-    → (bytes : List ℕ) × (assembled s b ≡ Some bytes) × (get contents b ≡ Some bytes) × (length bytes ≡ e.len)
+    → (bytes : List ℕ) × (assembled_bytes s b ≡ Some bytes) × (get contents b ≡ Some bytes) × (length bytes ≡ e.len)
 copy_of_entry g entries contents volumes s b e k is there =
     let row = value_of (get s.group.tables.bitfiles b) there in
     let f = k b row.0 row.1 in
@@ -168,18 +168,18 @@ copy_of_entry g entries contents volumes s b e k is there =
     (copy.0, copy.1, copy.2, copy.3 ∙ sym f.len ∙ ap (λ x. x.len) (one_row entries b b f.entry e refl f.is is))
 
 first_is : (sides : Numbered Side) (b : ℕ) (asked : List GroupId) (g : GroupId) (rest : List GroupId) (s : Side) (bytes : List ℕ) → asked ≡ g ∷ rest
-    → get sides g.0 ≡ Some s → assembled s b ≡ Some bytes → first_copy sides b asked ≡ bytes
+    → get sides g.0 ≡ Some s → assembled_bytes s b ≡ Some bytes → first_copy sides b asked ≡ bytes
 first_is sides b asked g rest s bytes first side copy =
-    ap (first_copy sides b) first ∙ ap (λ o. copy_or (assembled_in o b)) side ∙ ap copy_or copy
+    ap (first_copy sides b) first ∙ ap (λ o. copy_or (assembled_bytes_in o b)) side ∙ ap copy_or copy
 
 -- the first asked copy of a bitfile of which each copy is stored is its content
-pub first_copy_is_content : (j : Joint) → Kept j → (b : ℕ) (e : Entry) → get j.daemon.tables.entries b ≡ Some e → OneOrTwo (groups_asked e)
+pub first_copy_is_content : (j : Joint) → InvariantHolds j → (b : ℕ) (e : Entry) → get j.daemon.tables.entries b ≡ Some e → OneOrTwo (groups_asked e)
     → is_stored e ≡ true → e.dropping ≡ false
     → (bytes : List ℕ) × (get j.history.contents b ≡ Some bytes) × (length bytes ≡ e.len) × (first_copy j.sides b (asked_by (Some e)) ≡ bytes)
 first_copy_is_content j k b e is asked whole lasting =
     let first = first_asked (groups_asked e) asked in
     let g = first.0 in
-    let among : Among g (groups_asked e) = subst (λ gs. Among g gs) (sym first.2) (inl refl) in
+    let among : IsAmong g (groups_asked e) = subst (λ gs. IsAmong g gs) (sym first.2) (inl refl) in
     let side = value_of (get j.sides g.0) (k.configured b e is g among) in
     let stored = asked_stored e g.0 (record { group = g; among = among; same = refl }) whole in
     let s = k.sides g.0 side.0 side.1 in

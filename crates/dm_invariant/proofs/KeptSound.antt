@@ -10,11 +10,11 @@ use Rattle.dm_model.specs.declared.state.Daemon.{Daemon}
 use Rattle.dm_model.specs.declared.state.History.{History}
 use Rattle.dm_model.specs.declared.state.Joint.{Joint}
 use Rattle.dm_model.specs.declared.state.Side.{Side}
-use Rattle.dm_invariant.specs.Among.{Among}
+use Rattle.dm_invariant.specs.Among.{IsAmong}
 use Rattle.dm_invariant.specs.Assemble.{SumRight}
 use Rattle.dm_invariant.specs.Catalogue.{BitfileKept}
 use Rattle.dm_invariant.specs.Doubts.{InGroup}
-use Rattle.dm_invariant.specs.Kept.{committed_in, deleted_in, SideKept, Kept}
+use Rattle.dm_invariant.specs.Kept.{committed_in, deleted_in, SideKept, InvariantHolds}
 use Rattle.dm_invariant.specs.Opened.{Fits}
 use Rattle.dm_invariant.specs.Sound.{CopySound, ChunkSound, GroupSound, Sound}
 use Rattle.dm_invariant.proofs.AskedGroups.{NumberAmong}
@@ -26,7 +26,7 @@ use Rattle.dm_invariant.proofs.Options.{value_of, same_row}
 
 -- a chunk of a bitfile
 chunk_sound : (g b : ℕ) (d : Daemon) (h : History) (s : Side) (row : BitfileRow)
-    → BitfileKept g d.tables.entries h.contents s.group.tables.volumes s.images b row → (c : Chunk) → Among c row.chunks
+    → BitfileKept g d.tables.entries h.contents s.group.tables.volumes s.images b row → (c : Chunk) → IsAmong c row.chunks
     → ChunkSound h.contents s b c
 chunk_sound g b d h s row f c among = record {
   lies = f.lies c among;
@@ -71,7 +71,7 @@ stored_asked g e had =
     let c = passing (λ c. nat_eq c.group.0 g && c.stored) e.copies had in
     record { group = c.0.group; among = among_mapped (λ c. c.group) c.0 e.copies c.1; same = eqb-true c.0.group.0 g (and_parts (nat_eq c.0.group.0 g) c.0.stored c.2).0 }
 
-stored_there : (j : Joint) → Kept j → (b : ℕ) (e : Entry) → get j.daemon.tables.entries b ≡ Some e → e.dropping ≡ false → (g : ℕ)
+stored_there : (j : Joint) → InvariantHolds j → (b : ℕ) (e : Entry) → get j.daemon.tables.entries b ≡ Some e → e.dropping ≡ false → (g : ℕ)
     → has_stored e g ≡ true → InGroup j.sides g b
 stored_there j k b e is lasting g had =
     let asked = stored_asked g e had in
@@ -82,7 +82,7 @@ stored_there j k b e is lasting g had =
 -- ---- the state
 
 -- a state that keeps the invariant is sound
-pub kept_sound : (j : Joint) → Kept j → Sound j
+pub kept_sound : (j : Joint) → InvariantHolds j → Sound j
 kept_sound j k = record {
   tables = k.files.state;
   held = k.files.held;
@@ -96,7 +96,7 @@ kept_sound j k = record {
 }
 
 -- and fits the configuration
-pub kept_fits : (j : Joint) → Kept j → Fits j
+pub kept_fits : (j : Joint) → InvariantHolds j → Fits j
 kept_fits j k = record {
   size = k.files.size;
   entries = k.configured;

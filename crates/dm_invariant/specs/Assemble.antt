@@ -33,17 +33,17 @@ joined_from images from end (c ∷ cs) =
     (bytes_and (known_bytes (known_on images c.vsn.0) c.place c.len) (joined_from images (from + c.len) end cs))
     None
 
-abbrev pub assembled_of : Named Image → Option BitfileRow → Option (List ℕ)
-assembled_of images None = None
-assembled_of images (Some row) = joined_from images 0 row.len row.chunks
+abbrev pub assembled_bytes_of : Named Image → Option BitfileRow → Option (List ℕ)
+assembled_bytes_of images None = None
+assembled_bytes_of images (Some row) = joined_from images 0 row.len row.chunks
 
 -- the copy of a bitfile that a group has
-abbrev pub assembled : Side → ℕ → Option (List ℕ)
-assembled s b = assembled_of s.images (map.get s.group.tables.bitfiles b)
+abbrev pub assembled_bytes : Side → ℕ → Option (List ℕ)
+assembled_bytes s b = assembled_bytes_of s.images (map.get s.group.tables.bitfiles b)
 
-abbrev pub assembled_in : Option Side → ℕ → Option (List ℕ)
-assembled_in None b = None
-assembled_in (Some s) b = assembled s b
+abbrev pub assembled_bytes_in : Option Side → ℕ → Option (List ℕ)
+assembled_bytes_in None b = None
+assembled_bytes_in (Some s) b = assembled_bytes s b
 
 -- a chunk's bytes are known and are its part of the bitfile
 abbrev pub ChunkKnown : Named Image → List ℕ → Chunk → Type 0

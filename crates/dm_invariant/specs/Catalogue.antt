@@ -12,7 +12,7 @@ use Rattle.dm_durable.specs.Tables.{Numbered, Named}
 use Rattle.dm_durable.specs.Entries.{asks, has_stored}
 use Rattle.dm_durable.specs.GroupConditions.{Joins}
 use Rattle.dm_model.specs.declared.state.Image.{Image}
-use Rattle.dm_invariant.specs.Among.{Among}
+use Rattle.dm_invariant.specs.Among.{IsAmong}
 use Rattle.dm_invariant.specs.Assemble.{ChunkKnown, SumRight}
 
 -- a chunk of a stored bitfile lies behind the label of a volume that isn't held, before its end, and has a sum exactly
@@ -36,9 +36,9 @@ pub record BitfileKept (g : ℕ) (entries : Numbered Entry) (contents : Numbered
   pub content : map.get contents b ≡ Some bytes
   pub whole : length bytes ≡ row.len
   pub joins : Joins 0 row.chunks row.len
-  pub lies : (c : Chunk) → Among c row.chunks → LiesBefore volumes c
-  pub known : (c : Chunk) → Among c row.chunks → ChunkKnown images bytes c
-  pub sums : (c : Chunk) → Among c row.chunks → SumRight bytes c
+  pub lies : (c : Chunk) → IsAmong c row.chunks → LiesBefore volumes c
+  pub known : (c : Chunk) → IsAmong c row.chunks → ChunkKnown images bytes c
+  pub sums : (c : Chunk) → IsAmong c row.chunks → SumRight bytes c
 
 -- the bitfiles of a group agree with the entries, and with what was committed and deleted
 pub record CatalogueKept (g : ℕ) (entries : Numbered Entry) (contents : Numbered (List ℕ)) (taken : Numbered (Unit {0})) (volumes : Named VolumeRow)

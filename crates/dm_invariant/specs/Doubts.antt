@@ -31,7 +31,7 @@ use Rattle.dm_model.specs.declared.state.MountState.{MountState}
 use Rattle.dm_model.specs.declared.state.OpenRequest.{OpenRequest}
 use Rattle.dm_model.specs.declared.state.Reserved.{Reserved}
 use Rattle.dm_model.specs.declared.state.Side.{Side}
-use Rattle.dm_invariant.specs.Among.{Among}
+use Rattle.dm_invariant.specs.Among.{IsAmong}
 use Rattle.dm_invariant.specs.Assemble.{ChunkKnown, SumRight}
 use Rattle.dm_invariant.specs.Moves.{IsReadyAt}
 use Rattle.dm_invariant.specs.Requests.{PutOpen}
@@ -54,7 +54,7 @@ NotBeingMade t requests path = (n : Ino) (i : Inode) (bytes : List ℕ) (b : Bfi
 
 -- each of these groups is configured
 abbrev pub AllConfigured : Numbered Side → List GroupId → Type 0
-AllConfigured sides groups = (g : GroupId) → Among g groups → IsSome (map.get sides g.0)
+AllConfigured sides groups = (g : GroupId) → IsAmong g groups → IsSome (map.get sides g.0)
 
 -- a group has the bitfile
 pub record InGroup (sides : Numbered Side) (g b : ℕ) : Type 0 where
@@ -100,7 +100,7 @@ StepNeeds t requests contents cap sides (Taken n bytes) = TakenRight t.inodes co
 StepNeeds t requests contents cap sides (Dump name) = size_of (after_step t (Dump name)) ≤ cap
 StepNeeds t requests contents cap sides (Undump name) = Unit {0}
 StepNeeds t requests contents cap sides (Restore name path target change) = size_of (after_step t (Restore name path target change)) ≤ cap
-StepNeeds t requests contents cap sides (HardDelete bfids) = (b : Bfid) → Among b bfids → NoRequestOf requests b.0
+StepNeeds t requests contents cap sides (HardDelete bfids) = (b : Bfid) → IsAmong b bfids → NoRequestOf requests b.0
 StepNeeds t requests contents cap sides (Dropped b) = EachRow sides (λ g s. NotInGroup b.0 s)
 StepNeeds t requests contents cap sides Restart = ⊥
 StepNeeds t requests contents cap sides (Age age) = Unit {0}
@@ -136,14 +136,14 @@ pub record PutNeeds (g : ℕ) (entries : Numbered Entry) (contents : Numbered (L
 -- what a commit needs besides: its length is the content's, and no reservation is of the bitfile
 pub record CommitNeeds (g : ℕ) (entries : Numbered Entry) (contents : Numbered (List ℕ)) (images : Named Image) (volumes : Named VolumeRow)
     (tips : Named ℕ) (deleted : Numbered (Unit {0})) (reservations : Numbered Reserved) (b len : ℕ) (chunks : List Chunk) : Type 0 where
-  pub puts : PutNeeds g entries contents images volumes tips deleted b (λ c. Among c chunks)
+  pub puts : PutNeeds g entries contents images volumes tips deleted b (λ c. IsAmong c chunks)
   pub whole : length puts.bytes ≡ len
   pub unreserved : EachRow reservations (λ n r. r.bfid.0 ≡ b → ⊥)
 
 -- nobody uses the volume: no mount of it is open, and no reservation has a piece there
 pub record IsUnused (mounts : Numbered MountState) (reservations : Numbered Reserved) (vsn : List ℕ) : Type 0 where
   pub unmounted : EachRow mounts (λ m x. x.vsn.0 ≡ vsn → ⊥)
-  pub unreserved : EachRow reservations (λ n r. (p : Piece) → Among p r.pieces → p.vsn.0 ≡ vsn → ⊥)
+  pub unreserved : EachRow reservations (λ n r. (p : Piece) → IsAmong p r.pieces → p.vsn.0 ≡ vsn → ⊥)
 
 -- a new volume is one of the configuration's, with its size, and no mount of it is open
 pub record VolumeNeeds (conf : GroupConf) (mounts : Numbered MountState) (vsn : List ℕ) (size : ℕ) : Type 0 where

@@ -53,7 +53,7 @@ SideOf j g s =
     SideKept j.daemon.tables.entries j.history.contents j.history.taken j.daemon.requests g (committed_in h) (deleted_in h) s
 
 -- the joint state with all that is kept of it
-pub record Kept (j : Joint) : Type 0 where
+pub record InvariantHolds (j : Joint) : Type 0 where
   pub files : FilesKept j.daemon.tables j.history.contents j.daemon.cap
   pub dumps : DumpsKept j.daemon.tables.time.0 j.daemon.tables.entries j.daemon.tables.dumps
   pub taken : TakenKept j.daemon.tables.site j.daemon.tables.counter j.daemon.tables.entries j.history.taken

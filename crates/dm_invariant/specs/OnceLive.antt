@@ -17,7 +17,7 @@ use Rattle.dm_model.specs.declared.state.Origin.{Origin}
 use Rattle.dm_model.specs.declared.state.Origin.TheVariants as origin
 use Rattle.dm_model.specs.declared.state.Reserved.{Reserved}
 use Rattle.dm_invariant.specs.Assemble.{ChunkKnown, SumRight}
-use Rattle.dm_invariant.specs.Places.{ChunkCovers, HasKept, HasTarget}
+use Rattle.dm_invariant.specs.Places.{ChunkCovers, HasReserving, HasTarget}
 
 -- the chunk lies behind the label before the end of its volume, is known to be its part of the content, has a sum exactly
 -- where the volume's chunks do, which is right, and no zone in hand meets it
@@ -30,7 +30,7 @@ pub record StillThere (contents : Numbered (List ℕ)) (images : Named Image) (r
   pub content : map.get contents b ≡ Some bytes
   pub known : ChunkKnown images bytes c
   pub right : SumRight bytes c
-  pub beside_kept : (n offset place : ℕ) → ChunkCovers c c.vsn.0 place → HasKept reservations n offset c.vsn.0 place → ⊥
+  pub beside_kept : (n offset place : ℕ) → ChunkCovers c c.vsn.0 place → HasReserving reservations n offset c.vsn.0 place → ⊥
   pub beside_targets : (job place : ℕ) → ChunkCovers c c.vsn.0 place → HasTarget moves job c.vsn.0 place → ⊥
 
 -- the chunk was a live one of its volume under this epoch

@@ -16,7 +16,7 @@ use Rattle.dm_durable.specs.declared.group.GroupStep.TheVariants.{Volume, Commit
 use Rattle.dm_durable.specs.Tables.{Numbered}
 use Rattle.dm_model.specs.declared.state.Moving.{Moving}
 use Rattle.dm_model.specs.declared.state.Reserved.{Reserved}
-use Rattle.dm_invariant.specs.Among.{Among}
+use Rattle.dm_invariant.specs.Among.{IsAmong}
 
 -- ---- what covers a place
 
@@ -42,7 +42,7 @@ pub record TargetCovers (version : ℕ) (c : Chunk) (vsn : List ℕ) (place : �
 
 pub data Owner : Type 0 where
   Live : (bitfile offset : ℕ) → Owner
-  Kept : (reservation offset : ℕ) → Owner
+  Reserving : (reservation offset : ℕ) → Owner
   Target : (job : ℕ) → Owner
   Doubted : (offset : ℕ) → Owner
 
@@ -50,15 +50,15 @@ pub record HasLive (bitfiles : Numbered BitfileRow) (b offset : ℕ) (vsn : List
   pub row : BitfileRow
   pub is : map.get bitfiles b ≡ Some row
   pub chunk : Chunk
-  pub among : Among chunk row.chunks
+  pub among : IsAmong chunk row.chunks
   pub at : chunk.offset ≡ offset
   pub covers : ChunkCovers chunk vsn place
 
-pub record HasKept (reservations : Numbered Reserved) (n offset : ℕ) (vsn : List ℕ) (place : ℕ) : Type 0 where
+pub record HasReserving (reservations : Numbered Reserved) (n offset : ℕ) (vsn : List ℕ) (place : ℕ) : Type 0 where
   pub reserved : Reserved
   pub is : map.get reservations n ≡ Some reserved
   pub piece : Piece
-  pub among : Among piece reserved.pieces
+  pub among : IsAmong piece reserved.pieces
   pub at : piece.offset ≡ offset
   pub covers : PieceCovers reserved.chunk piece vsn place
 
@@ -70,7 +70,7 @@ pub record HasTarget (moves : Numbered Moving) (job : ℕ) (vsn : List ℕ) (pla
 -- the chunks that a step puts on volumes
 abbrev pub IsPut : Chunk → GroupStep → Type 0
 IsPut c (Volume vsn slot version size) = ⊥
-IsPut c (Commit b len chunks) = Among c chunks
+IsPut c (Commit b len chunks) = IsAmong c chunks
 IsPut c (Delete b) = ⊥
 IsPut c (Move b from to) = c ≡ to
 IsPut c (Free vsn) = ⊥
@@ -86,13 +86,13 @@ pub record HasDoubted (doubt : Option GroupRecord) (offset : ℕ) (vsn : List �
   pub at : chunk.offset ≡ offset
   pub covers : ChunkCovers chunk vsn place
 
-abbrev pub Has : Numbered BitfileRow → Numbered Reserved → Numbered Moving → Option GroupRecord → Owner → List ℕ → ℕ → Type 0
-Has bitfiles reservations moves doubt (Live b offset) vsn place = HasLive bitfiles b offset vsn place
-Has bitfiles reservations moves doubt (Kept n offset) vsn place = HasKept reservations n offset vsn place
-Has bitfiles reservations moves doubt (Target job) vsn place = HasTarget moves job vsn place
-Has bitfiles reservations moves doubt (Doubted offset) vsn place = HasDoubted doubt offset vsn place
+abbrev pub HasPlace : Numbered BitfileRow → Numbered Reserved → Numbered Moving → Option GroupRecord → Owner → List ℕ → ℕ → Type 0
+HasPlace bitfiles reservations moves doubt (Live b offset) vsn place = HasLive bitfiles b offset vsn place
+HasPlace bitfiles reservations moves doubt (Reserving n offset) vsn place = HasReserving reservations n offset vsn place
+HasPlace bitfiles reservations moves doubt (Target job) vsn place = HasTarget moves job vsn place
+HasPlace bitfiles reservations moves doubt (Doubted offset) vsn place = HasDoubted doubt offset vsn place
 
 -- no place is of two
 abbrev pub PlacesKept : Numbered BitfileRow → Numbered Reserved → Numbered Moving → Option GroupRecord → Type 0
 PlacesKept bitfiles reservations moves doubt =
-    (o p : Owner) (vsn : List ℕ) (place : ℕ) → Has bitfiles reservations moves doubt o vsn place → Has bitfiles reservations moves doubt p vsn place → o ≡ p
+    (o p : Owner) (vsn : List ℕ) (place : ℕ) → HasPlace bitfiles reservations moves doubt o vsn place → HasPlace bitfiles reservations moves doubt p vsn place → o ≡ p

@@ -21,7 +21,7 @@ use Rattle.dm_model.specs.declared.state.Reserved.{Reserved}
 use Rattle.dm_model.specs.declared.state.WrittenZone.{WrittenZone}
 use Rattle.dm_model.specs.Files.{is_put}
 use Rattle.dm_model.specs.GroupCalls.{piece_at}
-use Rattle.dm_invariant.specs.Among.{Among}
+use Rattle.dm_invariant.specs.Among.{IsAmong}
 use Rattle.dm_invariant.specs.Assemble.{known_on}
 
 -- the pieces are bytes of a bitfile from one offset to another: each begins where the one before ends
@@ -55,7 +55,7 @@ pub record ReservationKept (bitfiles : Numbered BitfileRow) (volumes : Named Vol
   pub new : map.get bitfiles r.bfid.0 ≡ None
   pub some : 0 < r.chunk
   pub joins : PiecesJoin 0 r.pieces r.len
-  pub zones : (p : Piece) → Among p r.pieces → ZoneInHand volumes tips r.chunk p
+  pub zones : (p : Piece) → IsAmong p r.pieces → ZoneInHand volumes tips r.chunk p
   pub written : EachRow held.written (λ index w. (p : Piece) → piece_at index r.pieces ≡ Some p → WrittenKept images r.chunk p w)
 
 -- the put of a request is the one that a copy is of

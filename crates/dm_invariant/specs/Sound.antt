@@ -23,8 +23,8 @@ use Rattle.dm_model.specs.declared.state.MountState.{MountState}
 use Rattle.dm_model.specs.declared.state.Side.{Side}
 use Rattle.std.specs.Option.{option_map}
 use Rattle.dm_durable.specs.Limits.{IsPast}
-use Rattle.dm_invariant.specs.Among.{Among}
-use Rattle.dm_invariant.specs.Assemble.{assembled, SumRight}
+use Rattle.dm_invariant.specs.Among.{IsAmong}
+use Rattle.dm_invariant.specs.Assemble.{assembled_bytes, SumRight}
 use Rattle.dm_invariant.specs.Catalogue.{LiesBefore}
 use Rattle.dm_invariant.specs.Doubts.{InGroup, MayLandIf, GroupMayLandIf}
 use Rattle.dm_invariant.specs.Files.{HeldRightly, DumpsKept}
@@ -40,7 +40,7 @@ use Rattle.dm_invariant.specs.Reservations.{ZoneInHand}
 -- the copy that a group has of a bitfile is the content, which has the length of the entry; and each sum is right
 pub record CopyRight (contents : Numbered (List ℕ)) (s : Side) (b : ℕ) (e : Entry) : Type 0 where
   pub bytes : List ℕ
-  pub copy : assembled s b ≡ Some bytes
+  pub copy : assembled_bytes s b ≡ Some bytes
   pub content : map.get contents b ≡ Some bytes
   pub len : length bytes ≡ e.len
 
@@ -75,8 +75,8 @@ pub record GroupSound (d : Daemon) (h : History) (g : ℕ) (s : Side) : Type 0 w
       → x.slot ≡ y.slot → v ≡ w
   pub bounds : EachRow s.group.tables.volumes (VolumeBounds s.group)
   -- chunks lie before the end of volumes that aren't held, and zones in hand before the tip
-  pub chunks : EachRow s.group.tables.bitfiles (λ b row. (c : Chunk) → Among c row.chunks → ChunkSound h.contents s b c)
-  pub zones : EachRow s.group.reservations (λ n r. (p : Piece) → Among p r.pieces → ZoneInHand s.group.tables.volumes s.group.tips r.chunk p)
+  pub chunks : EachRow s.group.tables.bitfiles (λ b row. (c : Chunk) → IsAmong c row.chunks → ChunkSound h.contents s b c)
+  pub zones : EachRow s.group.reservations (λ n r. (p : Piece) → IsAmong p r.pieces → ZoneInHand s.group.tables.volumes s.group.tips r.chunk p)
   pub targets : EachRow s.group.moves (λ n x. TargetInHand s.group.tables.volumes s.group.tips x.version x.to)
   -- no place is of two: chunks, zones in hand, chunks of a record in doubt
   pub apart : PlacesKept s.group.tables.bitfiles s.group.reservations s.group.moves s.group.doubt

@@ -14,8 +14,8 @@ use Rattle.dm_durable.specs.Dumps.{is_young, is_young_at}
 use Rattle.dm_model.specs.declared.state.Joint.{Joint}
 use Rattle.dm_model.specs.declared.state.Side.{Side}
 use Rattle.dm_model.specs.Files.{asked_by}
-use Rattle.dm_plain.specs.Namespace.{Namespace, Dumped}
-use Rattle.dm_invariant.specs.Assemble.{assembled_in}
+use Rattle.dm_plain.specs.Namespace.{Namespace, PlainDump}
+use Rattle.dm_invariant.specs.Assemble.{assembled_bytes_in}
 
 -- what a copy assembles to, or nothing
 abbrev pub copy_or : Option (List ℕ) → List ℕ
@@ -26,7 +26,7 @@ copy_or (Some bytes) = bytes
 -- file, and of what a young dump names, is always there
 abbrev pub first_copy : Numbered Side → ℕ → List GroupId → List ℕ
 first_copy sides b [] = []
-first_copy sides b (g ∷ gs) = copy_or (assembled_in (map.get sides g.0) b)
+first_copy sides b (g ∷ gs) = copy_or (assembled_bytes_in (map.get sides g.0) b)
 
 abbrev pub bitfile_bytes : Joint → ℕ → List ℕ
 bitfile_bytes j b = first_copy j.sides b (asked_by (map.get j.daemon.tables.entries b))
@@ -47,7 +47,7 @@ abbrev pub dumped_bytes : Joint → DumpInode → List ℕ
 dumped_bytes j (Kept bytes) = bytes
 dumped_bytes j (NamedFile len b) = bitfile_bytes j b.0
 
-abbrev pub dump_of : Joint → Dump → Dumped
+abbrev pub dump_of : Joint → Dump → PlainDump
 dump_of j d = record { made = d.made.0; least = d.least; files = map_values (λ path f. dumped_bytes j f) d.files }
 
 -- the dumps that are young at a time
@@ -64,7 +64,7 @@ plain_of j = record {
 }
 
 -- a namespace as users may see it: without the dumps that aren't young by their own `least` and its time
-abbrev pub shown : Namespace → Namespace
-shown ns = record ns {
+abbrev pub shown_namespace : Namespace → Namespace
+shown_namespace ns = record ns {
   dumps = map.retain_keys ns.dumps (λ name. passes (λ k d. is_young_at ns.now d.made d.least) name (map.get ns.dumps name));
 }

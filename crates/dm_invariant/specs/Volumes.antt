@@ -13,14 +13,14 @@ use Rattle.dm_durable.specs.Limits.{IsVolumeSize, IsGroupNumber, IsPast}
 use Rattle.dm_durable.specs.Tables.{Named}
 use Rattle.dm_durable.specs.Volumes.{is_listed, tip_in}
 use Rattle.dm_model.specs.declared.state.Image.{Image}
-use Rattle.dm_invariant.specs.Among.{Among}
+use Rattle.dm_invariant.specs.Among.{IsAmong}
 
 -- a group's configuration: its number and the size of its volumes are within their limits, chunks have bytes, serial numbers
 -- are in their grammar, there are no more volumes than a group may have, and the format is a version
 pub record ConfFits (conf : GroupConf) : Type 0 where
   pub group : IsGroupNumber conf.group.0
   pub chunk : 0 < conf.chunk
-  pub serials : (v : Vsn) → Among v conf.volumes → IsSerial v.0
+  pub serials : (v : Vsn) → IsAmong v conf.volumes → IsSerial v.0
   pub many : length conf.volumes ≤ volumes_limit
   pub sized : IsVolumeSize conf.size
   pub format : IsVersion conf.format

@@ -33,9 +33,9 @@ use Rattle.dm_model.specs.DaemonCalls.{time_at, is_taken_at, taken_at, deleted_i
 use Rattle.dm_model.specs.Files.{has_open_request}
 use Rattle.dm_model.specs.Guards.{AllHold}
 use Rattle.dm_model.specs.Plan.{guards_always}
-use Rattle.dm_invariant.specs.Among.{Among}
+use Rattle.dm_invariant.specs.Among.{IsAmong}
 use Rattle.dm_invariant.specs.Doubts.{NoRequestOf, NotInGroup, PutsBitfile, DoubtPuts, GroupStepNeeds, GroupMayLandIf}
-use Rattle.dm_invariant.specs.Kept.{deleted_in, Kept}
+use Rattle.dm_invariant.specs.Kept.{deleted_in, InvariantHolds}
 use Rattle.dm_invariant.proofs.AskedGroups.{asked_among}
 use Rattle.dm_invariant.proofs.Lists.{each_passes}
 use Rattle.dm_invariant.proofs.Options.{value_of, none_there}
@@ -85,7 +85,7 @@ from_zero [] = tt
 from_zero (e ∷ es) = (omega arith, from_zero es)
 
 -- what holds of each holds of one among them
-of_among : (P : Bfid → Type 0) (bs : List Bfid) → AllByRecursion P bs → (b : Bfid) → Among b bs → P b
+of_among : (P : Bfid → Type 0) (bs : List Bfid) → AllByRecursion P bs → (b : Bfid) → IsAmong b bs → P b
 of_among P [] each b among = absurd among
 of_among P (c ∷ cs) each b among = elim among [ inl same ↦ subst P (sym same) each.0 | inr after ↦ of_among P cs each.1 b after ]
 
@@ -110,7 +110,7 @@ module _ (d : Daemon) (now : ℕ) where
   taken_due : AllByRecursion (λ (b : Bfid). MayBeTaken d.tables now b.0) (taken_at d now)
   taken_due = rows_taken (MayBeTaken d.tables now) (λ b e is test. record { entry = e; is = is; due = (and_parts _ _ test).0 })
 
-  taken_free : (b : Bfid) → Among b (taken_at d now) → NoRequestOf d.requests b.0
+  taken_free : (b : Bfid) → IsAmong b (taken_at d now) → NoRequestOf d.requests b.0
   taken_free = of_among (λ b. NoRequestOf d.requests b.0) (taken_at d now)
       (rows_taken (NoRequestOf d.requests) (λ b e is test. no_request d.requests b (not-true _ (and_parts (is_due now d.tables.age e) _ test).1)))
 
@@ -142,7 +142,7 @@ was_told j b e all g asked =
     subst (λ n. IsSome (map.get (deleted_in (map.get j.history.groups n)) b)) group.same
     (deleted_there (map.get j.history.groups group.group.0) b test)
 
-module _ (j : Joint) (kept : Kept j) (b : ℕ) (e : Entry) (is : map.get j.daemon.tables.entries b ≡ Some e)
+module _ (j : Joint) (kept : InvariantHolds j) (b : ℕ) (e : Entry) (is : map.get j.daemon.tables.entries b ≡ Some e)
     (told : (g : ℕ) → asks e g ≡ true → IsSome (map.get (deleted_in (map.get j.history.groups g)) b))
     (g : ℕ) (s : Side) (at : map.get j.sides g ≡ Some s) where
   abbrev deleted : Numbered (Unit {0})
@@ -188,7 +188,7 @@ module _ (j : Joint) (kept : Kept j) (b : ℕ) (e : Entry) (is : map.get j.daemo
     lasting = doubt_puts_not s.group.doubt (kept.sides g s at).doubt;
   }
 
-pub dropped_lands : (j : Joint) → Kept j → (b : Bfid) (now : ℕ) (e : Entry) → map.get j.daemon.tables.entries b.0 ≡ Some e
+pub dropped_lands : (j : Joint) → InvariantHolds j → (b : Bfid) (now : ℕ) (e : Entry) → map.get j.daemon.tables.entries b.0 ≡ Some e
     → AllHold (guards_always (dropped j.daemon b now (Some e)) (dropped_needs j.history b (Some e))) → Lands j now (Dropped b)
 dropped_lands j kept b now e is legal = record {
   follow = record {

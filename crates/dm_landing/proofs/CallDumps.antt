@@ -20,7 +20,7 @@ use Rattle.dm_model.specs.declared.state.Joint.{Joint}
 use Rattle.dm_model.specs.DaemonCalls.{make_dump, undump, restore_file, set_age, time_at}
 use Rattle.dm_model.specs.Guards.{NoneHold}
 use Rattle.dm_invariant.specs.Files.{DumpedRightly}
-use Rattle.dm_invariant.specs.Kept.{Kept}
+use Rattle.dm_invariant.specs.Kept.{InvariantHolds}
 use Rattle.dm_invariant.proofs.Options.{no_value}
 use Rattle.dm_invariant.proofs.Times.{time_kept}
 use Rattle.dm_landing.proofs.CallFiles.{Lands}
@@ -71,7 +71,7 @@ file_there : (entries : Numbered Entry) (made : ℕ) (file : DumpInode) → Dump
 file_there entries made (KeptFile bytes) k = tt
 file_there entries made (NamedFile len b) k = record { entry = k.entry; is = k.is; complete = k.complete }
 
-pub restore_lands : (j : Joint) → Kept j → (name path target : List ℕ) (now : ℕ) (dump : DumpRow) (file : DumpInode)
+pub restore_lands : (j : Joint) → InvariantHolds j → (name path target : List ℕ) (now : ℕ) (dump : DumpRow) (file : DumpInode)
     → map.get j.daemon.tables.dumps name ≡ Some dump → map.get dump.files path ≡ Some file
     → NoneHold (restore_file j.daemon name path target now dump (Some file)).refusals
     → Lands j now (Restore name path target (j.daemon.tables.change + 1))

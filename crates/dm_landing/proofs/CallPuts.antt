@@ -26,7 +26,7 @@ use Rattle.dm_model.specs.Files.{File, groups_of, is_put, is_dual, state_of}
 use Rattle.dm_model.specs.Guards.{AllHold, NoneHold}
 use Rattle.dm_model.specs.Plan.{guards_always}
 use Rattle.dm_invariant.specs.Doubts.{NoPutOf, AllConfigured, InGroup}
-use Rattle.dm_invariant.specs.Kept.{committed_in, Kept}
+use Rattle.dm_invariant.specs.Kept.{committed_in, InvariantHolds}
 use Rattle.dm_invariant.specs.Requests.{RequestEntry, LivePut}
 use Rattle.dm_invariant.proofs.AskedGroups.{asked_among}
 use Rattle.dm_invariant.proofs.Options.{value_of}
@@ -59,7 +59,7 @@ all_numbered sides each (g ∷ rest) all =
 
 -- ---- a put begins
 
-pub begin_put_lands : (j : Joint) → Kept j → (path : List ℕ) (asked : List (Option GroupId)) (now k : ℕ) (f : File) → Found j path f
+pub begin_put_lands : (j : Joint) → InvariantHolds j → (path : List ℕ) (asked : List (Option GroupId)) (now k : ℕ) (f : File) → Found j path f
     → AllHold (guards_always (begin_put j.daemon path asked now k (Some f)) (begin_put_needs j.sides asked))
     → NoneHold (begin_put j.daemon path asked now k (Some f)).refusals
     → Lands j now (BeginPut path (record { 0 = bfid_of j.daemon.tables.site j.daemon.tables.counter }) (groups_of asked))
@@ -106,7 +106,7 @@ committed_there None b e = cc
 committed_there (Some h) b e = e
 
 -- a group that was asked and committed the bitfile has it
-in_group : (j : Joint) → Kept j → (b : ℕ) (e : Entry) (g : ℕ) → map.get j.daemon.tables.entries b ≡ Some e → e.dropping ≡ false → asks e g ≡ true
+in_group : (j : Joint) → InvariantHolds j → (b : ℕ) (e : Entry) (g : ℕ) → map.get j.daemon.tables.entries b ≡ Some e → e.dropping ≡ false → asks e g ≡ true
     → is_committed_in (map.get j.history.groups g) b ≡ true → InGroup j.sides g b
 in_group j kept b e g is lasting asked commits =
     let group = asked_among e g asked in
@@ -116,7 +116,7 @@ in_group j kept b e g is lasting asked commits =
     let u = value_of (map.get (committed_in o) b) (committed_there o b commits) in
     record { side = side.0; is = at; there = (kept.sides g side.0 at).catalogue.commits b u.0 u.1 e is lasting }
 
-pub copy_stored_lands : (j : Joint) → Kept j → (g : GroupId) (now k : ℕ) (r : OpenRequest) → map.get j.daemon.requests k ≡ Some r
+pub copy_stored_lands : (j : Joint) → InvariantHolds j → (g : GroupId) (now k : ℕ) (r : OpenRequest) → map.get j.daemon.requests k ≡ Some r
     → AllHold (guards_always (copy_stored j.daemon g now (Some r)) (copy_stored_needs j.history g (Some r))) → Lands j now (Stored r.bfid g)
 copy_stored_lands j kept g now k r at legal =
     let entry = kept.requests.entry k r at in
@@ -141,14 +141,14 @@ may_end t r entry live = record {
 }
 
 -- the put was the only one of its bitfile
-no_other_put : (j : Joint) (k : ℕ) (r : OpenRequest) → Kept j → map.get j.daemon.requests k ≡ Some r → is_put r.kind ≡ true
+no_other_put : (j : Joint) (k : ℕ) (r : OpenRequest) → InvariantHolds j → map.get j.daemon.requests k ≡ Some r → is_put r.kind ≡ true
     → NoPutOf (map.remove j.daemon.requests k) r.bfid.0
 no_other_put j k r kept at is put =
     let left = removed numbers j.daemon.requests k put.number put.request put.is in
     left.0 (sym (kept.requests.puts_apart k put.number r put.request at left.1 is put.put (sym put.same)))
 
 -- its request is spent first
-pub end_put_lands : (j : Joint) → Kept j → (sides : Numbered Side) (k now : ℕ) (r : OpenRequest) → map.get j.daemon.requests k ≡ Some r
+pub end_put_lands : (j : Joint) → InvariantHolds j → (sides : Numbered Side) (k now : ℕ) (r : OpenRequest) → map.get j.daemon.requests k ≡ Some r
     → AllHold (guards_always (end_put j.daemon k now (Some r)) (end_put_needs j.sides (Some r)))
     → NoneHold (end_put j.daemon k now (Some r)).refusals
     → LandsBeside (map.remove j.daemon.requests k) sides j now

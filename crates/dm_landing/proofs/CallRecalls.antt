@@ -32,7 +32,7 @@ use Rattle.dm_model.specs.Guards.{AllHold, NoneHold}
 use Rattle.dm_model.specs.Plan.{guards_always}
 use Rattle.dm_invariant.specs.Doubts.{TakenRight}
 use Rattle.dm_invariant.specs.Files.{NamedWhole, HeldRightly}
-use Rattle.dm_invariant.specs.Kept.{Kept}
+use Rattle.dm_invariant.specs.Kept.{InvariantHolds}
 use Rattle.dm_invariant.specs.Requests.{IsStoredAs, PartAt}
 use Rattle.dm_invariant.proofs.Assembled.{first_copy_is_content}
 use Rattle.dm_invariant.proofs.Lists.{passing}
@@ -104,7 +104,7 @@ pub record ContentThere (contents : Numbered (List ℕ)) (b len : ℕ) : Type 0 
   pub is : map.get contents b ≡ Some bytes
   pub sized : length bytes ≡ len
 
-pub named_content : (j : Joint) (b len : ℕ) → Kept j → NamedWhole j.daemon.tables.entries b len → ContentThere j.history.contents b len
+pub named_content : (j : Joint) (b len : ℕ) → InvariantHolds j → NamedWhole j.daemon.tables.entries b len → ContentThere j.history.contents b len
 named_content j b len kept named =
     let e = named.named.entry in
     let asked = (kept.files.state.entries b e named.named.is).asked in
@@ -112,7 +112,7 @@ named_content j b len kept named =
     record { bytes = content.0; is = content.1; sized = content.2 ∙ named.named.sized }
 
 -- the bytes that the worker read of a request's bitfile are its content
-was_content : (j : Joint) (w k : ℕ) (r : OpenRequest) (bytes : List ℕ) → Kept j → map.get j.daemon.requests k ≡ Some r → RecallThere j.workers w k
+was_content : (j : Joint) (w k : ℕ) (r : OpenRequest) (bytes : List ℕ) → InvariantHolds j → map.get j.daemon.requests k ≡ Some r → RecallThere j.workers w k
     → was_read (recall_in (map.get j.workers w) k) bytes ≡ true → map.get j.history.contents r.bfid.0 ≡ Some bytes
 was_content j w k r bytes kept at found test =
     let recall = kept.recalls.kept w found.worker found.there k found.recall found.has in
@@ -127,7 +127,7 @@ record TakesRightly (t : DaemonTables) (contents : Numbered (List ℕ)) (n : ℕ
   pub right : TakenRight t.inodes contents n bytes
 
 takes : (j : Joint) (n len : ℕ) (i : Inode) (b : Bfid) (bytes : List ℕ)
-    → Kept j → map.get j.daemon.tables.inodes n ≡ Some i → i.contents ≡ Offline len b
+    → InvariantHolds j → map.get j.daemon.tables.inodes n ≡ Some i → i.contents ≡ Offline len b
     → map.get j.history.contents b.0 ≡ Some bytes → TakesRightly j.daemon.tables j.history.contents n bytes
 takes j n len i b bytes kept is form content =
     let named = subst (HeldRightly j.daemon.tables.entries j.history.contents) form (kept.files.held n i is) in
@@ -142,7 +142,7 @@ takes j n len i b bytes kept is form content =
           ap (map.get j.history.contents) bitfile ∙ content;
     }
 
-taken_rightly : (j : Joint) (w k : ℕ) (r : OpenRequest) (bytes : List ℕ) (len : ℕ) (b : Bfid) → Kept j → map.get j.daemon.requests k ≡ Some r
+taken_rightly : (j : Joint) (w k : ℕ) (r : OpenRequest) (bytes : List ℕ) (len : ℕ) (b : Bfid) → InvariantHolds j → map.get j.daemon.requests k ≡ Some r
     → is_recall r.kind ≡ true → RecallThere j.workers w k → was_read (recall_in (map.get j.workers w) k) bytes ≡ true → r.found ≡ None
     → contents_of (map.get j.daemon.tables.inodes r.ino.0) ≡ Offline len b → TakesRightly j.daemon.tables j.history.contents r.ino.0 bytes
 taken_rightly j w k r bytes len b kept at is found test none here =
@@ -155,7 +155,7 @@ taken_rightly j w k r bytes len b kept at is found test none here =
 -- ---- a recall ends
 
 -- what it takes, of an inode that is away: its request is spent first
-pub end_recall_lands : (j : Joint) → Kept j → (requests : Numbered OpenRequest) (sides : Numbered Side) (w k : ℕ) (bytes : List ℕ) (now : ℕ)
+pub end_recall_lands : (j : Joint) → InvariantHolds j → (requests : Numbered OpenRequest) (sides : Numbered Side) (w k : ℕ) (bytes : List ℕ) (now : ℕ)
     (r : OpenRequest) (len : ℕ) (b : Bfid) → map.get j.daemon.requests k ≡ Some r
     → contents_of (map.get j.daemon.tables.inodes r.ino.0) ≡ Offline len b
     → AllHold (guards_always (end_recall j.daemon k bytes now (Some r)) (end_recall_needs (map.get j.workers w) k bytes))

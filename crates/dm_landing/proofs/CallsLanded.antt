@@ -23,9 +23,9 @@ use Rattle.dm_model.specs.DaemonCalls.{hard_delete_of, patch, release, remove, r
 use Rattle.dm_model.specs.Effects.{after_ending}
 use Rattle.dm_model.specs.Files.{File, file_at}
 use Rattle.dm_model.specs.Guards.{AllHold, NoneHold, first_true}
-use Rattle.dm_model.specs.Plan.{Plan, guards_always, if_accepted, prepared, refusal_of}
+use Rattle.dm_model.specs.Plan.{Plan, guards_always, if_accepted, prepared_plan, refusal_of}
 use Rattle.dm_invariant.specs.Doubts.{MayLand}
-use Rattle.dm_invariant.specs.Kept.{Kept}
+use Rattle.dm_invariant.specs.Kept.{InvariantHolds}
 use Rattle.dm_landing.proofs.CallDeletes.{hard_delete_lands, dropped_lands}
 use Rattle.dm_landing.proofs.CallDumps.{dump_lands, undump_lands, restore_lands, age_lands}
 use Rattle.dm_landing.proofs.CallFiles.{found, Lands}
@@ -59,10 +59,10 @@ lands_of j p (Some a) is lands = tt
 
 -- ---- all calls
 
-module _ (j : Joint) (kept : Kept j) (w : ℕ) where
+module _ (j : Joint) (kept : InvariantHolds j) (w : ℕ) where
   -- what the call of this plan journals may land
   abbrev pub Journals : Plan → Type 0
-  Journals p = PayloadLands (after_ending w p.ends j) (prepared p).payload
+  Journals p = PayloadLands (after_ending w p.ends j) (prepared_plan p).payload
 
   -- it does so where it does unless it is refused
   journals_by : (p : Plan) → (NoneHold p.refusals → PayloadLands (after_ending w p.ends j) p.payload) → Journals p

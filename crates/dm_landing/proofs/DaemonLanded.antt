@@ -23,7 +23,7 @@ use Rattle.dm_model.specs.declared.state.Side.{Side}
 use Rattle.dm_model.specs.DaemonShare.{requests_after_step}
 use Rattle.dm_model.specs.Effects.{after_payload, history_after_step}
 use Rattle.dm_invariant.specs.Doubts.{MayLand, MayLandIf}
-use Rattle.dm_invariant.specs.Kept.{Kept, SideKept, committed_in, deleted_in}
+use Rattle.dm_invariant.specs.Kept.{InvariantHolds, SideKept, committed_in, deleted_in}
 use Rattle.dm_landing.proofs.DumpsLanded.{dumps_landed}
 use Rattle.dm_landing.proofs.EntriesGone.{FreshEntry}
 use Rattle.dm_landing.proofs.EntriesLanded.{configured_go, contents_onward, step_goes}
@@ -88,7 +88,7 @@ time_same t (Dropped b) = refl
 time_same t Restart = refl
 time_same t (Age age) = refl
 
-module _ (j : Joint) (r : DaemonRecord) (k : Kept j)
+module _ (j : Joint) (r : DaemonRecord) (k : InvariantHolds j)
     (may : MayLand j.daemon.tables j.daemon.requests j.history.contents j.daemon.cap j.sides r) where
   abbrev New : DaemonTables
   New = after_record j.daemon.tables r
@@ -108,7 +108,7 @@ module _ (j : Joint) (r : DaemonRecord) (k : Kept j)
       (committed_in (map.get j.history.groups g)) (deleted_in (map.get j.history.groups g)) s is k.requests.entry (put_of_request j.daemon r.step) (k.sides g s is)
 
   -- the invariant is kept by a record of the daemon that may land, where none is in doubt
-  pub daemon_record_landed : j.daemon.doubt ≡ None → Kept (after_payload (Some (payload.Daemon r)) j)
+  pub daemon_record_landed : j.daemon.doubt ≡ None → InvariantHolds (after_payload (Some (payload.Daemon r)) j)
   daemon_record_landed settled = record {
     files = files_landed j.daemon j.history j.sides r k.files may;
     dumps =

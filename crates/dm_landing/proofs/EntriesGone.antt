@@ -19,7 +19,7 @@ use Rattle.dm_durable.specs.DaemonConditions.{MayBeTaken}
 use Rattle.dm_durable.specs.DaemonJournal.{MayBeEntry}
 use Rattle.dm_model.specs.declared.state.OpenRequest.{OpenRequest}
 use Rattle.dm_model.specs.declared.state.Side.{Side}
-use Rattle.dm_invariant.specs.Among.{Among}
+use Rattle.dm_invariant.specs.Among.{IsAmong}
 use Rattle.dm_invariant.specs.Doubts.{AllConfigured, InGroup, NoRequestOf, NotInGroup}
 use Rattle.dm_invariant.proofs.LettingGo.{StaysOrGoes, let_go-there, let_go-row}
 use Rattle.dm_invariant.proofs.Lists.{passing}
@@ -96,20 +96,20 @@ module _ (IsNamed : ℕ → Type 0) (sides : Numbered Side) (requests : Numbered
   }
 
   due_of : (t : DaemonTables) (bfids : List Bfid) (b : ℕ) → list_any (λ c. nat_eq c.0 b) bfids ≡ true → AllByRecursion (λ c. MayBeTaken t now c.0) bfids
-      → (c : Bfid) × Among c bfids × (c.0 ≡ b) × MayBeTaken t now b
+      → (c : Bfid) × IsAmong c bfids × (c.0 ≡ b) × MayBeTaken t now b
   due_of t bfids b is each =
       let c = passing (λ c. nat_eq c.0 b) bfids is in
       let same : c.0.0 ≡ b = eqb-true c.0.0 b c.2 in
       (c.0, c.1, same, subst (λ x. MayBeTaken t now x) same (found bfids each c.0 c.1))
     where
-      found : (xs : List Bfid) → AllByRecursion (λ c. MayBeTaken t now c.0) xs → (c : Bfid) → Among c xs → MayBeTaken t now c.0
+      found : (xs : List Bfid) → AllByRecursion (λ c. MayBeTaken t now c.0) xs → (c : Bfid) → IsAmong c xs → MayBeTaken t now c.0
       found [] all c among = absurd among
       found (x ∷ xs) all c (inl same) = subst (λ y. MayBeTaken t now y.0) (sym same) all.0
       found (x ∷ xs) all c (inr after) = found xs all.1 c after
 
   fate_taken : (t : DaemonTables) (bfids : List Bfid) (b : ℕ) (e : Entry) (o : Option Entry) (taken : Bool) → t.age ≡ age
       → list_any (λ c. nat_eq c.0 b) bfids ≡ taken → o ≡ Some (cond taken (as_dropping e) e) → map.get t.entries b ≡ Some e
-      → AllByRecursion (λ c. MayBeTaken t now c.0) bfids → ((c : Bfid) → Among c bfids → NoRequestOf requests c.0)
+      → AllByRecursion (λ c. MayBeTaken t now c.0) bfids → ((c : Bfid) → IsAmong c bfids → NoRequestOf requests c.0)
       → Fate IsNamed sides requests now age b e o
   fate_taken t bfids b e o false same none is at each free = Stays is
   fate_taken t bfids b e o true same some is at each free =
@@ -120,7 +120,7 @@ module _ (IsNamed : ℕ → Type 0) (sides : Numbered Side) (requests : Numbered
 
   -- a hard delete takes some
   pub go_taken : (t : DaemonTables) (bfids : List Bfid) → t.age ≡ age → AllByRecursion (λ c. MayBeTaken t now c.0) bfids
-      → ((c : Bfid) → Among c bfids → NoRequestOf requests c.0) → Go t.entries (with_dropping bfids t.entries)
+      → ((c : Bfid) → IsAmong c bfids → NoRequestOf requests c.0) → Go t.entries (with_dropping bfids t.entries)
   go_taken t bfids same each free =
       let f : ℕ → Entry → Entry = λ b e. cond (list_any (λ c. nat_eq c.0 b) bfids) (as_dropping e) e in
       record {

@@ -10,7 +10,7 @@ use Rattle.dm_tables.specs.Rows.{EachRow}
 use Rattle.dm_tables.proofs.Orders.{numbers, paths}
 use Rattle.dm_tables.proofs.Rows.{get-here, get-beside, inserted, each-insert}
 use Rattle.dm_tables.proofs.Adjusted.{adjusted_row, each-adjust}
-use Rattle.dm_rules.specs.Numbers.{narrowed}
+use Rattle.dm_rules.specs.Numbers.{as_word}
 use Rattle.dm_durable.specs.declared.daemon.Contents.{Contents}
 use Rattle.dm_durable.specs.declared.daemon.Contents.TheVariants.{Regular, Making, Dual, Offline}
 use Rattle.dm_durable.specs.declared.daemon.DaemonTables.{DaemonTables}
@@ -56,7 +56,7 @@ online_length (Making bytes b) may = refl
 online_length (Dual bytes b) may = absurd may
 online_length (Offline len b) may = absurd may
 
-one_more : (n : ℕ) → n ≤ number_limit → narrowed (n + 1) ≡ n + 1
+one_more : (n : ℕ) → n ≤ number_limit → as_word (n + 1) ≡ n + 1
 one_more n le = omega (arith, le)
 
 module _ (t : DaemonTables) (contents : Numbered (List ℕ)) (cap : ℕ) (sides : Numbered Side) (requests : Numbered OpenRequest) (time : ℕ)
@@ -127,7 +127,7 @@ module _ (t : DaemonTables) (contents : Numbered (List ℕ)) (cap : ℕ) (sides 
       → b.0 ≡ bfid_of t.site t.counter → t.counter ≤ number_limit → OneOrTwo groups → AreGroups groups → map.len t.entries < entries_limit
       → AllConfigured sides groups
       → OtherFiles (FreshEntry t.site t.counter time contents sides) t contents (map.insert contents b.0 (bytes_online i.contents)) cap sides requests time
-      t.change (narrowed (t.counter + 1)) t.names (map.insert t.inodes n (with_contents (as_making b) i))
+      t.change (as_word (t.counter + 1)) t.names (map.insert t.inodes n (with_contents (as_making b) i))
       (map.insert (after_letting_go_if t.entries (map.insert t.inodes n (with_contents (as_making b) i)) time (bitfile_of i.contents)) b.0
       (new_entry (length (bytes_online i.contents)) groups))
   other_begun n b groups i is may_be next left asked are room all =
@@ -144,7 +144,7 @@ module _ (t : DaemonTables) (contents : Numbered (List ℕ)) (cap : ℕ) (sides 
       let same = size_changed t.inodes n i j is (length_making b i.contents may_be) in
       let count = counted_let_go t.entries new time (bitfile_of i.contents) in
       let more = counted_insert numbers mid b.0 v in
-      let up : narrowed (t.counter + 1) ≡ t.counter + 1 = one_more t.counter left in
+      let up : as_word (t.counter + 1) ≡ t.counter + 1 = one_more t.counter left in
       record {
         on = on;
         last = omega arith;

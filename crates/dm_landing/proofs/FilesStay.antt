@@ -29,7 +29,7 @@ use Rattle.dm_durable.proofs.Ages.{least_within}
 use Rattle.dm_durable.proofs.Sizes.{size_aged}
 use Rattle.dm_model.specs.declared.state.OpenRequest.{OpenRequest}
 use Rattle.dm_model.specs.declared.state.Side.{Side}
-use Rattle.dm_invariant.specs.Among.{Among}
+use Rattle.dm_invariant.specs.Among.{IsAmong}
 use Rattle.dm_invariant.specs.Doubts.{InGroup, NoRequestOf, NotInGroup}
 use Rattle.dm_invariant.specs.Files.{FilesKept}
 use Rattle.dm_invariant.proofs.Counts.{counted_insert, counted_remove, counted_adjust, counted_mapped}
@@ -83,7 +83,7 @@ module _ (t : DaemonTables) (contents : Numbered (List ℕ)) (cap : ℕ) (sides 
   gone_still false e is = is
 
   -- a hard delete takes entries
-  pub same_taken : (bfids : List Bfid) → MayHardDelete t time bfids → ((c : Bfid) → Among c bfids → NoRequestOf requests c.0)
+  pub same_taken : (bfids : List Bfid) → MayHardDelete t time bfids → ((c : Bfid) → IsAmong c bfids → NoRequestOf requests c.0)
       → Same t.age (with_dropping bfids t.entries) t.dumps
   same_taken bfids may free =
       let f : ℕ → Entry → Entry = λ b e. cond (list_any (λ c. nat_eq c.0 b) bfids) (as_dropping e) e in

@@ -11,10 +11,10 @@ use Rattle.dm_durable.specs.Volumes.{epoch_or}
 use Rattle.dm_model.specs.declared.state.Image.{Image}
 use Rattle.dm_model.specs.declared.state.OpenRequest.{OpenRequest}
 use Rattle.dm_model.specs.declared.state.Side.{Side}
-use Rattle.dm_invariant.specs.Among.{Among}
+use Rattle.dm_invariant.specs.Among.{IsAmong}
 use Rattle.dm_invariant.specs.Catalogue.{CatalogueKept}
 use Rattle.dm_invariant.specs.Kept.{SideKept}
-use Rattle.dm_invariant.specs.Places.{Has, Live, Kept, Target, Doubted, Owner, PlacesKept}
+use Rattle.dm_invariant.specs.Places.{HasPlace, Live, Reserving, Target, Doubted, Owner, PlacesKept}
 use Rattle.dm_invariant.specs.Volumes.{VolumesKept}
 use Rattle.dm_landing.proofs.VolumesOnward.{OnwardAt, OriginOnward, mount_once_onward, move_onward, reservation_onward, reuse_onward}
 
@@ -33,7 +33,7 @@ pub record OpenStays (s : Side) (t : GroupTables) (tips : Named ℕ) (images : N
   pub later : s.group.tables.time.0 ≤ t.time.0
   pub epochs : EachRow s.mounts (λ m x. epoch_or (map.get t.volumes x.vsn.0) ≡ epoch_or (map.get s.group.tables.volumes x.vsn.0))
   pub chunks : EachRow s.mounts (λ m x. OriginOnward s.group.tables.volumes t.volumes s.group.tips tips s.images images x.origin)
-  pub pieces : EachRow s.group.reservations (λ n r. (p : Piece) → Among p r.pieces → StaysAt s t tips images p.vsn.0)
+  pub pieces : EachRow s.group.reservations (λ n r. (p : Piece) → IsAmong p r.pieces → StaysAt s t tips images p.vsn.0)
   pub new : EachRow s.group.reservations (λ n r. map.get t.bitfiles r.bfid.0 ≡ None)
   pub targets : EachRow s.group.moves (λ job x. StaysAt s t tips images x.to.vsn.0)
   pub reused : EachRow s.group.reuses (λ m x. StaysAt s t tips images x.vsn.0)
@@ -83,10 +83,10 @@ side_as entries contents taken requests g committed more deleted s t tips images
 
 -- who has a place with nothing in doubt has it with something in doubt
 pub has_more : (s : Side) (doubt : Option GroupRecord) (o : Owner) (vsn : List ℕ) (place : ℕ)
-    → Has s.group.tables.bitfiles s.group.reservations s.group.moves None o vsn place
-    → Has s.group.tables.bitfiles s.group.reservations s.group.moves doubt o vsn place
+    → HasPlace s.group.tables.bitfiles s.group.reservations s.group.moves None o vsn place
+    → HasPlace s.group.tables.bitfiles s.group.reservations s.group.moves doubt o vsn place
 has_more s doubt (Live b offset) vsn place has = has
-has_more s doubt (Kept n offset) vsn place has = has
+has_more s doubt (Reserving n offset) vsn place has = has
 has_more s doubt (Target job) vsn place has = has
 has_more s doubt (Doubted offset) vsn place has = absurd has.among
 

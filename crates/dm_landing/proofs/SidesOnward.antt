@@ -20,7 +20,7 @@ use Rattle.dm_model.specs.declared.state.Origin.{Origin}
 use Rattle.dm_model.specs.declared.state.Origin.TheVariants as origin
 use Rattle.dm_model.specs.declared.state.Reserved.{Reserved}
 use Rattle.dm_model.specs.declared.state.Side.{Side}
-use Rattle.dm_invariant.specs.Among.{Among}
+use Rattle.dm_invariant.specs.Among.{IsAmong}
 use Rattle.dm_invariant.specs.Catalogue.{BitfileKept, CatalogueKept}
 use Rattle.dm_invariant.specs.Doubts.{NotInGroup, PutNeeds, GroupStepNeeds, GroupMayLandIf, PutsBitfile, DoubtPuts}
 use Rattle.dm_invariant.specs.Kept.{SideKept}
@@ -214,7 +214,7 @@ module _ (IsNamed : ℕ → Type 0) (sides : Numbered Side) (requests later : Nu
   unfolding puts_onward
   needs_onward g s deleted time (Volume vsn slot version size) lasting k = k
   needs_onward g s deleted time (Commit b len chunks) lasting k = record {
-    puts = puts_onward g s deleted b.0 (λ c. Among c chunks) (lasting b.0 refl) k.puts;
+    puts = puts_onward g s deleted b.0 (λ c. IsAmong c chunks) (lasting b.0 refl) k.puts;
     whole = k.whole;
     unreserved = k.unreserved;
   }

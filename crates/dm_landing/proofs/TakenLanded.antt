@@ -11,7 +11,7 @@ use Rattle.dm_tables.specs.Rows.{EachRow, adjust}
 use Rattle.dm_tables.proofs.Orders.{numbers, same_or}
 use Rattle.dm_tables.proofs.Rows.{each-insert, each-remove, get-here, get-beside}
 use Rattle.dm_tables.proofs.Adjusted.{each-adjust, each-map}
-use Rattle.dm_rules.specs.Numbers.{narrowed}
+use Rattle.dm_rules.specs.Numbers.{as_word}
 use Rattle.dm_durable.specs.declared.daemon.DaemonRecord.{DaemonRecord}
 use Rattle.dm_durable.specs.declared.daemon.DaemonStep.{DaemonStep}
 use Rattle.dm_durable.specs.declared.daemon.DaemonStep.TheVariants.{Write, Remove, BeginPut, Stored, EndPut, Release, Taken, Dump, Undump, Restore, HardDelete, Dropped, Restart, Age}
@@ -30,7 +30,7 @@ use Rattle.dm_model.specs.declared.state.Daemon.{Daemon}
 use Rattle.dm_model.specs.declared.state.History.{History}
 use Rattle.dm_model.specs.declared.state.Side.{Side}
 use Rattle.dm_model.specs.Effects.{history_after_step, with_taken}
-use Rattle.dm_invariant.specs.Among.{Among}
+use Rattle.dm_invariant.specs.Among.{IsAmong}
 use Rattle.dm_invariant.specs.Doubts.{MayLand}
 use Rattle.dm_invariant.specs.Files.{FilesKept, TakenKept}
 use Rattle.dm_invariant.proofs.LettingGo.{StaysOrGoes, let_go-row}
@@ -130,7 +130,7 @@ dropping_or true e = refl
 dropping_or false e = refl
 
 taken_given : (site next : ℕ) (entries : Numbered Entry) (bfids : List Bfid) (taken : Numbered (Unit {0}))
-    → EachRow entries (λ b e. IsGiven site next b) → ((c : Bfid) → Among c bfids → (e : Entry) × (map.get entries c.0 ≡ Some e))
+    → EachRow entries (λ b e. IsGiven site next b) → ((c : Bfid) → IsAmong c bfids → (e : Entry) × (map.get entries c.0 ≡ Some e))
     → EachRow taken (λ b u. IsGiven site next b) → EachRow (with_taken bfids taken) (λ b u. IsGiven site next b)
 taken_given site next entries [] taken rows there each = each
 taken_given site next entries (b ∷ bs) taken rows there each =
@@ -176,7 +176,7 @@ module _ (d : Daemon) (h : History) (time : ℕ) (k : FilesKept d.tables h.conte
   free_taken : (b : Bfid) → b.0 ≡ bfid_of d.tables.site d.tables.counter → false ≡ is_some (map.get h.taken b.0)
   free_taken b is = sym (ap is_some (next_free d.tables.site d.tables.counter b.0 h.taken is taken.given _ refl))
 
-  up : (n : ℕ) → n ≤ number_limit → n ≤ narrowed (n + 1)
+  up : (n : ℕ) → n ≤ number_limit → n ≤ as_word (n + 1)
   up n le = omega (arith, le)
 
   same_begun : (path : List ℕ) (b : Bfid) (groups : List GroupId) → MayBeginPut d.tables path b groups
@@ -184,13 +184,13 @@ module _ (d : Daemon) (h : History) (time : ℕ) (k : FilesKept d.tables h.conte
   same_begun path b groups may =
       subst (λ o. let u = after_begin_put_at Later b groups o in TakenKept u.site u.counter u.entries h.taken) (sym may.name)
       (subst (λ o. let u = after_begin_put Later b groups may.n.0 o in TakenKept u.site u.counter u.entries h.taken) (sym may.is)
-      (with_counter _ (narrowed (d.tables.counter + 1)) (up d.tables.counter may.left)
+      (with_counter _ (as_word (d.tables.counter + 1)) (up d.tables.counter may.left)
       (begun Is Later taken.dropping b groups may.n.0 (Some may.inode) (free_taken b may.next))))
 
-  found : (bfids : List Bfid) → MayHardDelete d.tables time bfids → (c : Bfid) → Among c bfids → (e : Entry) × (map.get d.tables.entries c.0 ≡ Some e)
+  found : (bfids : List Bfid) → MayHardDelete d.tables time bfids → (c : Bfid) → IsAmong c bfids → (e : Entry) × (map.get d.tables.entries c.0 ≡ Some e)
   found bfids may c among = each bfids may.each c among
     where
-      each : (xs : List Bfid) → AllByRecursion (λ b. MayBeTaken d.tables time b.0) xs → (c : Bfid) → Among c xs → (e : Entry) × (map.get d.tables.entries c.0 ≡ Some e)
+      each : (xs : List Bfid) → AllByRecursion (λ b. MayBeTaken d.tables time b.0) xs → (c : Bfid) → IsAmong c xs → (e : Entry) × (map.get d.tables.entries c.0 ≡ Some e)
       each [] all c among = absurd among
       each (x ∷ xs) all c (inl same) = (all.0.entry, ap (λ y. map.get d.tables.entries y.0) same ∙ all.0.is)
       each (x ∷ xs) all c (inr after) = each xs all.1 c after

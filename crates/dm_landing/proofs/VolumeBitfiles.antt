@@ -22,7 +22,7 @@ use Rattle.dm_model.specs.declared.state.Side.{Side}
 use Rattle.dm_invariant.specs.Catalogue.{BitfileKept}
 use Rattle.dm_invariant.specs.Doubts.{GroupMayLand}
 use Rattle.dm_invariant.specs.Kept.{SideKept}
-use Rattle.dm_invariant.specs.Places.{Has, Live, Kept, Target, Doubted, Owner, PlacesKept}
+use Rattle.dm_invariant.specs.Places.{HasPlace, Live, Reserving, Target, Doubted, Owner, PlacesKept}
 use Rattle.dm_invariant.specs.Volumes.{VolumesKept}
 use Rattle.dm_landing.proofs.GroupLanding.{landed_as, places_settled, side_as}
 use Rattle.dm_landing.proofs.VolumeAdded.{all_origins_onward}
@@ -55,7 +55,7 @@ still_away m b q away =
 -- who has a place had it before a bitfile was taken out
 has_before : (bitfiles : Numbered BitfileRow) (b : ℕ) (reservations : Numbered Reserved) (moves : Numbered Moving)
     (doubt : Option GroupRecord) (o : Owner) (vsn : List ℕ) (place : ℕ)
-    → Has (map.remove bitfiles b) reservations moves doubt o vsn place → Has bitfiles reservations moves doubt o vsn place
+    → HasPlace (map.remove bitfiles b) reservations moves doubt o vsn place → HasPlace bitfiles reservations moves doubt o vsn place
 has_before bitfiles b reservations moves doubt (Live c offset) vsn place has = record {
   row = has.row;
   is = (removed numbers bitfiles b c has.row has.is).1;
@@ -64,7 +64,7 @@ has_before bitfiles b reservations moves doubt (Live c offset) vsn place has = r
   at = has.at;
   covers = has.covers;
 }
-has_before bitfiles b reservations moves doubt (Kept n offset) vsn place has = has
+has_before bitfiles b reservations moves doubt (Reserving n offset) vsn place has = has
 has_before bitfiles b reservations moves doubt (Target job) vsn place has = has
 has_before bitfiles b reservations moves doubt (Doubted offset) vsn place has = has
 

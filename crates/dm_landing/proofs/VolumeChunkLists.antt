@@ -5,7 +5,7 @@ use Rattle.dm_durable.specs.Tables.{Named}
 use Rattle.dm_durable.specs.declared.group.VolumeRow.{VolumeRow}
 use Rattle.dm_durable.specs.GroupConditions.{LiesOn, EachLies, Joins}
 use Rattle.dm_durable.specs.Group.{chunk_at}
-use Rattle.dm_invariant.specs.Among.{Among}
+use Rattle.dm_invariant.specs.Among.{IsAmong}
 use Rattle.std.proofs.lemmas.Option.{same_Some}
 
 -- chunks that join end behind where they begin
@@ -14,7 +14,7 @@ joins_onward from to [] joins = omega (arith, joins)
 joins_onward from to (c ∷ cs) joins = let on = joins_onward (from + c.len) to cs joins.2 in omega (arith, on)
 
 -- and each before they end
-pub joins_within : (from to : ℕ) (cs : List Chunk) (c : Chunk) → Joins from cs to → Among c cs → c.offset + c.len ≤ to
+pub joins_within : (from to : ℕ) (cs : List Chunk) (c : Chunk) → Joins from cs to → IsAmong c cs → c.offset + c.len ≤ to
 joins_within from to [] c joins among = absurd among
 joins_within from to (d ∷ cs) c joins (inl here) =
     let on : d.offset + d.len ≤ to = let rest = joins_onward (from + d.len) to cs joins.2 in let at = joins.0 in omega (arith, rest, at) in
@@ -27,16 +27,16 @@ joins_both from mid to [] ys one two = subst (λ n. Joins n ys to) (sym one) two
 joins_both from mid to (c ∷ xs) ys one two = (one.0, one.1, joins_both (from + c.len) mid to xs ys one.2 two)
 
 -- the chunk that begins at an offset is one of the list
-pub chunk_among : (offset : ℕ) (cs : List Chunk) (c : Chunk) → chunk_at offset cs ≡ Some c → Among c cs
+pub chunk_among : (offset : ℕ) (cs : List Chunk) (c : Chunk) → chunk_at offset cs ≡ Some c → IsAmong c cs
 chunk_among offset [] c e = cc
 chunk_among offset (d ∷ ds) c e =
-    elim (nat_eq d.offset offset) as (λ b. cond b (Some d) (chunk_at offset ds) ≡ Some c → (c ≡ d) ⊎ Among c ds) [
+    elim (nat_eq d.offset offset) as (λ b. cond b (Some d) (chunk_at offset ds) ≡ Some c → (c ≡ d) ⊎ IsAmong c ds) [
       | true ↦ λ at. inl (sym (same_Some _ _ at))
       | false ↦ λ rest. inr (chunk_among offset ds c rest)
     ] e
 
 -- where all lie on volumes, each does
-pub one_lies : (volumes : Named VolumeRow) (chunks : List Chunk) (c : Chunk) → EachLies volumes chunks → Among c chunks → LiesOn volumes c
+pub one_lies : (volumes : Named VolumeRow) (chunks : List Chunk) (c : Chunk) → EachLies volumes chunks → IsAmong c chunks → LiesOn volumes c
 one_lies volumes [] c lie among = absurd among
 one_lies volumes (d ∷ ds) c lie among =
     elim among [
@@ -45,6 +45,6 @@ one_lies volumes (d ∷ ds) c lie among =
     ]
 
 -- and all do where each does
-pub each_lies : (volumes : Named VolumeRow) (chunks : List Chunk) → ((c : Chunk) → Among c chunks → LiesOn volumes c) → EachLies volumes chunks
+pub each_lies : (volumes : Named VolumeRow) (chunks : List Chunk) → ((c : Chunk) → IsAmong c chunks → LiesOn volumes c) → EachLies volumes chunks
 each_lies volumes [] each = tt
 each_lies volumes (c ∷ cs) each = (each c (inl refl), each_lies volumes cs (λ d among. each d (inr among)))

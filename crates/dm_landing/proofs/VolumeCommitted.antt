@@ -17,11 +17,11 @@ use Rattle.dm_model.specs.declared.state.Moving.{Moving}
 use Rattle.dm_model.specs.declared.state.OpenRequest.{OpenRequest}
 use Rattle.dm_model.specs.declared.state.Reserved.{Reserved}
 use Rattle.dm_model.specs.declared.state.Side.{Side}
-use Rattle.dm_invariant.specs.Among.{Among}
+use Rattle.dm_invariant.specs.Among.{IsAmong}
 use Rattle.dm_invariant.specs.Catalogue.{BitfileKept, LiesBefore}
 use Rattle.dm_invariant.specs.Doubts.{CommitNeeds, GroupMayLand}
 use Rattle.dm_invariant.specs.Kept.{SideKept}
-use Rattle.dm_invariant.specs.Places.{Has, Live, Kept, Target, Doubted, Owner, PlacesKept}
+use Rattle.dm_invariant.specs.Places.{HasPlace, Live, Reserving, Target, Doubted, Owner, PlacesKept}
 use Rattle.dm_invariant.proofs.LookUps.{key_differs, still_there}
 use Rattle.dm_invariant.proofs.Options.{has_value}
 use Rattle.dm_landing.proofs.GroupLanding.{landed_as, side_as}
@@ -43,19 +43,19 @@ module _ (bitfiles : Numbered BitfileRow) (reservations : Numbered Reserved) (mo
 
   -- who has a place after a commit had it before: it is no other, or was the commit's own
   record WasOther (o : Owner) (vsn : List ℕ) (place : ℕ) : Type 0 where
-    has : Has bitfiles reservations moves committing o vsn place
+    has : HasPlace bitfiles reservations moves committing o vsn place
     sure : (n : ℕ) → o ≡ Doubted n → ⊥
 
   record WasNew (o : Owner) (vsn : List ℕ) (place : ℕ) : Type 0 where
     offset : ℕ
     is : o ≡ Live b.0 offset
-    has : Has bitfiles reservations moves committing (Doubted offset) vsn place
+    has : HasPlace bitfiles reservations moves committing (Doubted offset) vsn place
 
-  had : (o : Owner) (vsn : List ℕ) (place : ℕ) → Has more reservations moves None o vsn place → WasOther o vsn place ⊎ WasNew o vsn place
+  had : (o : Owner) (vsn : List ℕ) (place : ℕ) → HasPlace more reservations moves None o vsn place → WasOther o vsn place ⊎ WasNew o vsn place
   had (Live q offset) vsn place h =
       elim (inserted numbers bitfiles b.0 _ q h.row h.is) [
         | inl here ↦
-            let among : Among h.chunk chunks = subst (λ r. Among h.chunk r.chunks) here.1 h.among in
+            let among : IsAmong h.chunk chunks = subst (λ r. IsAmong h.chunk r.chunks) here.1 h.among in
             inr (record {
               offset = offset;
               is = ap (λ x. Live x offset) here.0;
@@ -67,7 +67,7 @@ module _ (bitfiles : Numbered BitfileRow) (reservations : Numbered Reserved) (mo
               sure = λ n e. cc;
             })
       ]
-  had (Kept n offset) vsn place h = inl (record { has = h; sure = λ m e. cc })
+  had (Reserving n offset) vsn place h = inl (record { has = h; sure = λ m e. cc })
   had (Target job) vsn place h = inl (record { has = h; sure = λ m e. cc })
   had (Doubted offset) vsn place h = absurd h.among
 
@@ -94,7 +94,7 @@ module _ (bitfiles : Numbered BitfileRow) (reservations : Numbered Reserved) (mo
 bitfile_new : (g : ℕ) (entries : Numbered Entry) (contents : Numbered (List ℕ)) (s : Side) (deleted : Numbered (Unit {0})) (b len : ℕ)
     (chunks : List Chunk) → Joins 0 chunks len
     → CommitNeeds g entries contents s.images s.group.tables.volumes s.group.tips deleted s.group.reservations b len chunks
-    → ((c : Chunk) → Among c chunks → LiesBefore (with_ends_behind chunks s.group.tables.volumes) c)
+    → ((c : Chunk) → IsAmong c chunks → LiesBefore (with_ends_behind chunks s.group.tables.volumes) c)
     → BitfileKept g entries contents (with_ends_behind chunks s.group.tables.volumes) s.images b (record { len = len; chunks = chunks })
 bitfile_new g entries contents s deleted b len chunks joins n lies = record {
   entry = n.puts.entry;

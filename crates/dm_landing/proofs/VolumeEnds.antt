@@ -4,7 +4,7 @@ use Rattle.std.specs.FinMap as map
 use Rattle.dm_base.specs.Limits.{epoch_limit, volumes_limit}
 use Rattle.dm_base.specs.declared.conf.GroupConf.{GroupConf}
 use Rattle.dm_base.specs.declared.volume.Chunk.{Chunk}
-use Rattle.dm_rules.specs.Numbers.{narrowed}
+use Rattle.dm_rules.specs.Numbers.{as_word}
 use Rattle.dm_rules.specs.Version.{IsVersion, has_sum}
 use Rattle.dm_durable.specs.declared.group.VolumeRow.{VolumeRow}
 use Rattle.dm_durable.specs.Group.{with_ends_behind}
@@ -13,7 +13,7 @@ use Rattle.dm_durable.specs.Limits.{IsPast}
 use Rattle.dm_durable.specs.Tables.{Named}
 use Rattle.dm_durable.specs.Volumes.{tip_in, tip_or}
 use Rattle.dm_model.specs.declared.state.Image.{Image}
-use Rattle.dm_invariant.specs.Among.{Among}
+use Rattle.dm_invariant.specs.Among.{IsAmong}
 use Rattle.dm_invariant.specs.Catalogue.{LiesBefore}
 use Rattle.dm_invariant.specs.Volumes.{VolumeKept, VolumesKept}
 use Rattle.dm_invariant.proofs.Times.{still_past}
@@ -31,7 +31,7 @@ tip_same None v w low up = omega (arith, low, up)
 tip_same (Some t) v w low up = refl
 
 -- a place of 64 bits, as 64 bits hold it
-narrow_small : (n size end : ℕ) → n ≤ size → size < 2 ^ 64 → narrowed n ≤ end → n ≤ end
+narrow_small : (n size end : ℕ) → n ≤ size → size < 2 ^ 64 → as_word n ≤ end → n ≤ end
 narrow_small n size end within small narrow = omega (arith, within, small, narrow)
 
 -- the size of a configured volume is one
@@ -42,7 +42,7 @@ size_small conf before volumes tips k = let most = k.fits.sized.most in omega (a
 -- each chunk ends before the tip of its volume
 abbrev pub Below : Named VolumeRow → Named ℕ → List Chunk → Type 0
 Below volumes tips chunks =
-    (c : Chunk) (v : VolumeRow) → Among c chunks → map.get volumes c.vsn.0 ≡ Some v → c.place + c.len ≤ tip_in tips c.vsn.0 v
+    (c : Chunk) (v : VolumeRow) → IsAmong c chunks → map.get volumes c.vsn.0 ≡ Some v → c.place + c.len ≤ tip_in tips c.vsn.0 v
 
 -- an end is raised up to the tip at most
 end_below : (volumes : Named VolumeRow) (tips : Named ℕ) (chunks : List Chunk) (vsn : List ℕ) (v w : VolumeRow) → Below volumes tips chunks
@@ -77,7 +77,7 @@ module _ (conf : GroupConf) (before : ℕ) (volumes : Named VolumeRow) (tips : N
       )
 
   -- a chunk that raises ends lies before the one that it raised
-  pub lies_raised : (c : Chunk) → Among c chunks → LiesOn volumes c → LiesBefore raised c
+  pub lies_raised : (c : Chunk) → IsAmong c chunks → LiesOn volumes c → LiesBefore raised c
   lies_raised c among l =
       let r = raised_by chunks volumes c.vsn.0 l.volume l.is in
       let sized = (k.volume c.vsn.0 l.volume l.is).size in

@@ -2,7 +2,7 @@
 use Rattle.std.proofs.Common.{◌≡◌, ℕ, ◌+◌, ◌≤◌, List, [], ◌∷◌, Option, Some, None, refl, sym, ap, subst, ◌∙◌, inl, inr, arith}
 use Rattle.std.specs.FinMap as map
 use Rattle.dm_base.specs.declared.volume.Chunk.{Chunk}
-use Rattle.dm_rules.specs.Numbers.{narrowed}
+use Rattle.dm_rules.specs.Numbers.{as_word}
 use Rattle.dm_tables.specs.Rows.{adjust}
 use Rattle.dm_tables.proofs.Orders.{paths, same_or}
 use Rattle.dm_tables.proofs.Rows.{one_row}
@@ -11,7 +11,7 @@ use Rattle.dm_durable.specs.Tables.{Named}
 use Rattle.dm_durable.specs.Group.{with_ends_behind, with_end_behind}
 use Rattle.dm_durable.specs.declared.group.VolumeRow.{VolumeRow}
 use Rattle.dm_durable.specs.Volumes.{epoch_or}
-use Rattle.dm_invariant.specs.Among.{Among}
+use Rattle.dm_invariant.specs.Among.{IsAmong}
 
 -- a volume before and after: its end is not lower, no lower than that of each of the chunks on it, and as low as they allow
 pub record Raised (chunks : List Chunk) (vsn : List ℕ) (v w : VolumeRow) : Type 0 where
@@ -21,8 +21,8 @@ pub record Raised (chunks : List Chunk) (vsn : List ℕ) (v w : VolumeRow) : Typ
   pub epoch : w.epoch ≡ v.epoch
   pub held : w.held ≡ v.held
   pub low : v.end ≤ w.end
-  pub reaches : (c : Chunk) → Among c chunks → c.vsn.0 ≡ vsn → narrowed (c.place + c.len) ≤ w.end
-  pub below : (top : ℕ) → v.end ≤ top → ((c : Chunk) → Among c chunks → c.vsn.0 ≡ vsn → narrowed (c.place + c.len) ≤ top) → w.end ≤ top
+  pub reaches : (c : Chunk) → IsAmong c chunks → c.vsn.0 ≡ vsn → as_word (c.place + c.len) ≤ w.end
+  pub below : (top : ℕ) → v.end ≤ top → ((c : Chunk) → IsAmong c chunks → c.vsn.0 ≡ vsn → as_word (c.place + c.len) ≤ top) → w.end ≤ top
 
 not_raised : (vsn : List ℕ) (v : VolumeRow) → Raised [] vsn v v
 not_raised vsn v = record {
@@ -47,7 +47,7 @@ raised_here c cs vsn v w here r = record {
   held = r.held;
   low = let l = r.low in omega (arith, l);
   reaches = λ d among at. elim among [
-    | inl same ↦ subst (λ x. narrowed (x.place + x.len) ≤ w.end) (sym same) (let l = r.low in omega (arith, l))
+    | inl same ↦ subst (λ x. as_word (x.place + x.len) ≤ w.end) (sym same) (let l = r.low in omega (arith, l))
     | inr later ↦ r.reaches d later at
   ];
   below = λ top end all.

@@ -23,12 +23,12 @@ use Rattle.dm_model.specs.declared.state.Moving.{Moving}
 use Rattle.dm_model.specs.declared.state.OpenRequest.{OpenRequest}
 use Rattle.dm_model.specs.declared.state.Reserved.{Reserved}
 use Rattle.dm_model.specs.declared.state.Side.{Side}
-use Rattle.dm_invariant.specs.Among.{Among}
+use Rattle.dm_invariant.specs.Among.{IsAmong}
 use Rattle.dm_invariant.specs.Assemble.{ChunkKnown, SumRight}
 use Rattle.dm_invariant.specs.Catalogue.{BitfileKept, LiesBefore}
 use Rattle.dm_invariant.specs.Doubts.{GroupMayLand, PutNeeds}
 use Rattle.dm_invariant.specs.Kept.{SideKept}
-use Rattle.dm_invariant.specs.Places.{Has, Live, Kept, Target, Doubted, Owner, PlacesKept}
+use Rattle.dm_invariant.specs.Places.{HasPlace, Live, Reserving, Target, Doubted, Owner, PlacesKept}
 use Rattle.dm_invariant.specs.Volumes.{VolumesKept}
 use Rattle.dm_invariant.proofs.Lists.{mapped_among}
 use Rattle.dm_invariant.proofs.Options.{mapped_value, same_row}
@@ -104,15 +104,15 @@ joins_moved from to start end (c ∷ cs) offset len is joins =
     ]
 
 -- a chunk of the list is the moved one, or was there and begins elsewhere
-moved_among : (to : Chunk) (cs : List Chunk) (c : Chunk) → Among c (prelude.map (chunk_or_moved to) cs)
-    → (c ≡ to) ⊎ (Among c cs × (c.offset ≢ to.offset))
+moved_among : (to : Chunk) (cs : List Chunk) (c : Chunk) → IsAmong c (prelude.map (chunk_or_moved to) cs)
+    → (c ≡ to) ⊎ (IsAmong c cs × (c.offset ≢ to.offset))
 moved_among to cs c among =
     let x = mapped_among (chunk_or_moved to) c cs among in
     elim (moved_or_same to x.0) [
       | inl moved ↦ inl (sym x.2 ∙ moved.0)
       | inr stays ↦
           let same : x.0 ≡ c = sym stays.0 ∙ x.2 in
-          inr (subst (λ z. Among z cs × (z.offset ≢ to.offset)) same (x.1, stays.1))
+          inr (subst (λ z. IsAmong z cs × (z.offset ≢ to.offset)) same (x.1, stays.1))
     ]
 
 -- ---- places
@@ -126,18 +126,18 @@ module _ (bitfiles : Numbered BitfileRow) (reservations : Numbered Reserved) (mo
 
   -- who has a place after a move had it before: it is no other, or was the move's own
   record WasOther (o : Owner) (vsn : List ℕ) (place : ℕ) : Type 0 where
-    has : Has bitfiles reservations moves moving o vsn place
+    has : HasPlace bitfiles reservations moves moving o vsn place
     sure : (n : ℕ) → o ≡ Doubted n → ⊥
 
   record WasMoved (o : Owner) (vsn : List ℕ) (place : ℕ) : Type 0 where
     is : o ≡ Live b.0 to.offset
-    has : Has bitfiles reservations moves moving (Doubted to.offset) vsn place
+    has : HasPlace bitfiles reservations moves moving (Doubted to.offset) vsn place
 
-  had : (o : Owner) (vsn : List ℕ) (place : ℕ) → Has moved reservations moves None o vsn place → WasOther o vsn place ⊎ WasMoved o vsn place
+  had : (o : Owner) (vsn : List ℕ) (place : ℕ) → HasPlace moved reservations moves None o vsn place → WasOther o vsn place ⊎ WasMoved o vsn place
   had (Live q offset) vsn place h =
       elim (adjusted numbers bitfiles b.0 (with_chunk to) q h.row h.is) [
         | inl here ↦
-            let P : BitfileRow → Type 0 = λ r. Among h.chunk r.chunks in
+            let P : BitfileRow → Type 0 = λ r. IsAmong h.chunk r.chunks in
             elim (moved_among to here.1.0.chunks h.chunk (subst P here.1.2 h.among)) [
               | inl same ↦
                   inr (record {
@@ -163,7 +163,7 @@ module _ (bitfiles : Numbered BitfileRow) (reservations : Numbered Reserved) (mo
               sure = λ n e. cc;
             })
       ]
-  had (Kept n offset) vsn place h = inl (record { has = h; sure = λ m e. cc })
+  had (Reserving n offset) vsn place h = inl (record { has = h; sure = λ m e. cc })
   had (Target job) vsn place h = inl (record { has = h; sure = λ m e. cc })
   had (Doubted offset) vsn place h = absurd h.among
 

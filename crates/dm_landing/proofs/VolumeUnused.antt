@@ -25,7 +25,7 @@ use Rattle.dm_model.specs.declared.state.Origin.TheVariants as origin
 use Rattle.dm_model.specs.declared.state.Reserved.{Reserved}
 use Rattle.dm_model.specs.declared.state.Reusing.{Reusing}
 use Rattle.dm_model.specs.declared.state.Side.{Side}
-use Rattle.dm_invariant.specs.Among.{Among}
+use Rattle.dm_invariant.specs.Among.{IsAmong}
 use Rattle.dm_invariant.specs.Doubts.{IsUnused}
 use Rattle.dm_invariant.specs.Kept.{SideKept}
 use Rattle.dm_invariant.specs.Mounts.{OriginKept, TargetMount}
@@ -35,13 +35,13 @@ use Rattle.dm_landing.proofs.GroupLanding.{OpenStays, StaysAt}
 use Rattle.dm_landing.proofs.VolumesOnward.{OriginOnward}
 
 -- where no chunk of a list is on the volume, each is on another
-chunk_elsewhere : (vsn : List ℕ) (cs : List Chunk) (c : Chunk) → list_any (is_on vsn) cs ≡ false → Among c cs → c.vsn.0 ≢ vsn
+chunk_elsewhere : (vsn : List ℕ) (cs : List Chunk) (c : Chunk) → list_any (is_on vsn) cs ≡ false → IsAmong c cs → c.vsn.0 ≢ vsn
 chunk_elsewhere vsn cs c none among =
     λ same. let f = one_passes (is_on vsn) c cs among (same_texts c.vsn.0 vsn same) in let g = sym none ∙ f in cc
 
 -- so it is of all bitfiles
 pub chunks_elsewhere : (bitfiles : Numbered BitfileRow) (vsn : List ℕ) → has_chunk_on bitfiles vsn ≡ false
-    → EachRow bitfiles (λ b row. (c : Chunk) → Among c row.chunks → c.vsn.0 ≢ vsn)
+    → EachRow bitfiles (λ b row. (c : Chunk) → IsAmong c row.chunks → c.vsn.0 ≢ vsn)
 chunks_elsewhere bitfiles vsn none = λ b row is c among.
     chunk_elsewhere vsn row.chunks c (any-false numbers (λ b row. list_any (is_on vsn) row.chunks) bitfiles none b row is) among
 

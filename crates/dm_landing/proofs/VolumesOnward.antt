@@ -25,7 +25,7 @@ use Rattle.dm_model.specs.declared.state.Reserved.{Reserved}
 use Rattle.dm_model.specs.declared.state.Reusing.{Reusing}
 use Rattle.dm_model.specs.declared.state.WrittenZone.{WrittenZone}
 use Rattle.dm_model.specs.GroupCalls.{piece_at}
-use Rattle.dm_invariant.specs.Among.{Among}
+use Rattle.dm_invariant.specs.Among.{IsAmong}
 use Rattle.dm_invariant.specs.Assemble.{ChunkKnown, known_on}
 use Rattle.dm_invariant.specs.Catalogue.{BitfileKept, LiesBefore}
 use Rattle.dm_invariant.specs.Moves.{IsReadyAt, MoveKept, ReuseKept, TargetInHand, WrittenRight}
@@ -33,10 +33,10 @@ use Rattle.dm_invariant.specs.OnceLive.{MountOnce, OnceLive, StillThere}
 use Rattle.dm_invariant.specs.Reservations.{ReservationKept, WrittenKept, ZoneInHand}
 
 -- the piece at a place of a list is among the list
-pub piece_among : (k : ℕ) (ps : List Piece) (p : Piece) → piece_at k ps ≡ Some p → Among p ps
+pub piece_among : (k : ℕ) (ps : List Piece) (p : Piece) → piece_at k ps ≡ Some p → IsAmong p ps
 piece_among k [] p is = cc
 piece_among k (q ∷ qs) p is =
-    elim (nat_eq k 0) as (λ b. cond b (Some q) (piece_at (k - 1) qs) ≡ Some p → Among p (q ∷ qs)) [
+    elim (nat_eq k 0) as (λ b. cond b (Some q) (piece_at (k - 1) qs) ≡ Some p → IsAmong p (q ∷ qs)) [
       | true ↦ λ e. let same : p ≡ q = cc in inl same
       | false ↦ λ e. inr (piece_among (k - 1) qs p e)
     ] is
@@ -82,7 +82,7 @@ module _ (volumes after : Named VolumeRow) (tips tips_after : Named ℕ) (images
   known_onward bytes c v on is known = ap (λ k. known_bytes k c.place c.len) (on v is).2.known ∙ known
 
   pub bitfile_onward : (g : ℕ) (entries : Numbered Entry) (contents : Numbered (List ℕ)) (b : ℕ) (row : BitfileRow)
-      → ((c : Chunk) → Among c row.chunks → OnwardAt c.vsn.0)
+      → ((c : Chunk) → IsAmong c row.chunks → OnwardAt c.vsn.0)
       → BitfileKept g entries contents volumes images b row → BitfileKept g entries contents after images_after b row
   bitfile_onward g entries contents b row on k = record {
     entry = k.entry;
@@ -118,7 +118,7 @@ module _ (volumes after : Named VolumeRow) (tips tips_after : Named ℕ) (images
   }
 
   pub reservation_onward : (bitfiles new : Numbered BitfileRow) (copies : Numbered CopyState) (n : ℕ) (r : Reserved)
-      → map.get new r.bfid.0 ≡ None → ((p : Piece) → Among p r.pieces → OnwardAt p.vsn.0)
+      → map.get new r.bfid.0 ≡ None → ((p : Piece) → IsAmong p r.pieces → OnwardAt p.vsn.0)
       → ReservationKept bitfiles volumes tips images copies n r → ReservationKept new after tips_after images_after copies n r
   reservation_onward bitfiles new copies n r none on k = record {
     copy = k.copy;

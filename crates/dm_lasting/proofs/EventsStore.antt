@@ -26,8 +26,8 @@ use Rattle.dm_model.specs.declared.state.Daemon.{Daemon}
 use Rattle.dm_model.specs.declared.state.Joint.{Joint}
 use Rattle.dm_model.specs.declared.state.Side.{Side}
 use Rattle.dm_model.specs.DaemonShare.{daemon_after_call, daemon_after_ending, daemon_after_fault, daemon_after_opening, daemon_after_payload, daemon_doubting, daemon_without_doubt}
-use Rattle.dm_model.specs.Plan.{illegal_call, illegal_fault, prepared}
-use Rattle.dm_model.specs.Step.{Stepped, after_call, after_fault, after_landing, after_stop, landed_doubt, landed_in, needs_of, plan_of, step}
+use Rattle.dm_model.specs.Plan.{illegal_call, illegal_fault, prepared_plan}
+use Rattle.dm_model.specs.Step.{Stepped, after_call, after_fault, after_landing, after_stop, doubt_outcome, landing_outcome_in, needs_of, plan_of, step}
 use Rattle.dm_model.proofs.Shares.{PaysOf}
 use Rattle.dm_shown.proofs.EventsShown.{landed_is, look_is, outcome_is, payload_is, side_pays, volume_pays}
 use Rattle.dm_lasting.specs.Comes.{DoubtStores, NotStored, SaysStored, StoredBy, Unstored}
@@ -99,19 +99,19 @@ module _ (b g : ℕ) where
   stopped_if t false each = each
 
   module _ (j : Joint) (w : ℕ) (u : Unstored j.daemon b g) where
-    other_call : (c : Call) → (SaysStored j.daemon b g c → ⊥) → Stores b g (prepared (plan_of j c)).payload → ⊥
+    other_call : (c : Call) → (SaysStored j.daemon b g c → ⊥) → Stores b g (prepared_plan (plan_of j c)).payload → ⊥
     other_call (call.Daemon c) other stores = other (says_stored b g j.daemon c stores)
     other_call (call.Group h c) other stores =
-        no_group h (prepared (plan_of j (call.Group h c))).payload (side_pays h c (map.get j.sides h.0)) stores
+        no_group h (prepared_plan (plan_of j (call.Group h c))).payload (side_pays h c (map.get j.sides h.0)) stores
     other_call (call.Volume h vsn c) other stores =
-        no_group h (prepared (plan_of j (call.Volume h vsn c))).payload (volume_pays h vsn c (map.get j.sides h.0)) stores
+        no_group h (prepared_plan (plan_of j (call.Volume h vsn c))).payload (volume_pays h vsn c (map.get j.sides h.0)) stores
 
     called_event : (c : Call) (k : Joint) (x : Answer) → (SaysStored j.daemon b g c → ⊥) → step j w (event.Call c) ≡ Stepped k x → Unstored k.daemon b g
     called_event c k x other at =
         let p = plan_of j c in
         let n = needs_of j w c in
-        let o = outcome_is (illegal_call p n) (after_call w (prepared p) j) k (prepared p).answer x at in
-        subst (λ (i : Joint). Unstored i.daemon b g) o.1 (called (prepared p) j.daemon (other_call c other) u)
+        let o = outcome_is (illegal_call p n) (after_call w (prepared_plan p) j) k (prepared_plan p).answer x at in
+        subst (λ (i : Joint). Unstored i.daemon b g) o.1 (called (prepared_plan p) j.daemon (other_call c other) u)
 
     failed_event : (c : Call) (healed checkpointed : Bool) (k : Joint) (x : Answer) → (SaysStored j.daemon b g c → ⊥)
         → step j w (event.Fault c healed checkpointed) ≡ Stepped k x → Unstored k.daemon b g
@@ -119,10 +119,10 @@ module _ (b g : ℕ) where
         let p = plan_of j c in
         let n = needs_of j w c in
         let far = healed && checkpointed in
-        let o = outcome_is (illegal_fault p n) (after_fault w (prepared p) far j) k _ x at in
-        subst (λ (i : Joint). Unstored i.daemon b g) o.1 (failed (prepared p) far j.daemon (other_call c other) u)
+        let o = outcome_is (illegal_fault p n) (after_fault w (prepared_plan p) far j) k _ x at in
+        subst (λ (i : Joint). Unstored i.daemon b g) o.1 (failed (prepared_plan p) far j.daemon (other_call c other) u)
 
-    landed_event : (c : Component) (o : Option Payload) (k : Joint) (x : Answer) → (Stores b g o → ⊥) → landed_doubt j c o ≡ Stepped k x
+    landed_event : (c : Component) (o : Option Payload) (k : Joint) (x : Answer) → (Stores b g o → ⊥) → doubt_outcome j c o ≡ Stepped k x
         → Unstored k.daemon b g
     landed_event c None k x other at = absurd (cc)
     landed_event c (Some p) k x other at =
@@ -139,7 +139,7 @@ module _ (b g : ℕ) where
     group_other h None stores = stores
     group_other h (Some r) stores = stores
 
-    side_landed : (h : GroupId) (o : Option Side) (k : Joint) (x : Answer) → landed_in j h o ≡ Stepped k x → Unstored k.daemon b g
+    side_landed : (h : GroupId) (o : Option Side) (k : Joint) (x : Answer) → landing_outcome_in j h o ≡ Stepped k x → Unstored k.daemon b g
     side_landed h None k x at = absurd (cc)
     side_landed h (Some s) k x at =
         landed_event (component.Group h) (option_map (λ r. payload.Group h r) s.group.doubt) k x (group_other h s.group.doubt) at

@@ -35,8 +35,8 @@ use Rattle.dm_model.specs.declared.state.Daemon.{Daemon}
 use Rattle.dm_model.specs.declared.state.Joint.{Joint}
 use Rattle.dm_model.specs.declared.state.Side.{Side}
 use Rattle.dm_model.specs.DaemonShare.{daemon_after_call, daemon_after_ending, daemon_after_fault, daemon_after_opening, daemon_after_payload, daemon_doubting, daemon_without_doubt, requests_after_step, with_change, with_change_on, with_request}
-use Rattle.dm_model.specs.Plan.{guards_of, refusal_of, illegal_call, illegal_fault, prepared}
-use Rattle.dm_model.specs.Step.{Stepped, after_call, after_fault, after_landing, landed_doubt, landed_in, needs_of, plan_of, step}
+use Rattle.dm_model.specs.Plan.{guards_of, refusal_of, illegal_call, illegal_fault, prepared_plan}
+use Rattle.dm_model.specs.Step.{Stepped, after_call, after_fault, after_landing, doubt_outcome, landing_outcome_in, needs_of, plan_of, step}
 use Rattle.dm_shown.proofs.EventsShown.{all_hold, side_opens, volume_opens, landed_is, look_is, outcome_is, payload_is}
 
 -- before a call makes anything the next number stands, and each open request was open
@@ -130,15 +130,15 @@ failed p far d =
 
 module _ (j : Joint) (w : ℕ) where
   makes_new : (c : Call) → AllHold (guards_of (refusal_of (plan_of j c)) (plan_of j c) (needs_of j w c))
-      → IsNewOf j.daemon.next_request (prepared (plan_of j c)).opens
+      → IsNewOf j.daemon.next_request (prepared_plan (plan_of j c)).opens
   makes_new (call.Daemon c) hold =
       new_if j.daemon.next_request (daemon_plan j.daemon c) (needs_of j w (call.Daemon c)) (refusal_of (daemon_plan j.daemon c)) (new_of j.daemon c) hold
   makes_new (call.Group h c) hold =
-      group_new h j.daemon.next_request (prepared (plan_of j (call.Group h c))).opens (side_opens h c (map.get j.sides h.0))
+      group_new h j.daemon.next_request (prepared_plan (plan_of j (call.Group h c))).opens (side_opens h c (map.get j.sides h.0))
   makes_new (call.Volume h vsn c) hold =
-      group_new h j.daemon.next_request (prepared (plan_of j (call.Volume h vsn c))).opens (volume_opens h vsn c (map.get j.sides h.0))
+      group_new h j.daemon.next_request (prepared_plan (plan_of j (call.Volume h vsn c))).opens (volume_opens h vsn c (map.get j.sides h.0))
 
-  landed_rise : (c : Component) (o : Option Payload) (k : Joint) (x : Answer) → landed_doubt j c o ≡ Stepped k x → RequestsRise j.daemon k.daemon
+  landed_rise : (c : Component) (o : Option Payload) (k : Joint) (x : Answer) → doubt_outcome j c o ≡ Stepped k x → RequestsRise j.daemon k.daemon
   landed_rise c None k x at = absurd (cc)
   landed_rise c (Some p) k x at =
       let l = landed_is j k c (Some p) x at in
@@ -147,7 +147,7 @@ module _ (j : Joint) (w : ℕ) where
       (stands j.daemon (daemon_after_payload (Some p) (daemon_without_doubt true c j.daemon))
       (paid j.daemon (Some p) (daemon_without_doubt true c j.daemon) (settled j.daemon true c j.daemon (open_before j.daemon))))
 
-  side_landed : (h : GroupId) (o : Option Side) (k : Joint) (x : Answer) → landed_in j h o ≡ Stepped k x → RequestsRise j.daemon k.daemon
+  side_landed : (h : GroupId) (o : Option Side) (k : Joint) (x : Answer) → landing_outcome_in j h o ≡ Stepped k x → RequestsRise j.daemon k.daemon
   side_landed h None k x at = absurd (cc)
   side_landed h (Some s) k x at = landed_rise (component.Group h) (option_map (λ r. payload.Group h r) s.group.doubt) k x at
 
@@ -155,15 +155,15 @@ module _ (j : Joint) (w : ℕ) where
   requests_rise (event.Call c) k x on at =
       let p = plan_of j c in
       let n = needs_of j w c in
-      let o = outcome_is (illegal_call p n) (after_call w (prepared p) j) k (prepared p).answer x at in
+      let o = outcome_is (illegal_call p n) (after_call w (prepared_plan p) j) k (prepared_plan p).answer x at in
       subst (λ (i : Joint). RequestsRise j.daemon i.daemon) o.1
-      (called (prepared p) j.daemon (makes_new c (all_hold (guards_of (refusal_of p) p n) o.0)))
+      (called (prepared_plan p) j.daemon (makes_new c (all_hold (guards_of (refusal_of p) p n) o.0)))
   requests_rise (event.Fault c healed checkpointed) k x on at =
       let p = plan_of j c in
       let n = needs_of j w c in
       let far = healed && checkpointed in
-      let o = outcome_is (illegal_fault p n) (after_fault w (prepared p) far j) k _ x at in
-      subst (λ (i : Joint). RequestsRise j.daemon i.daemon) o.1 (failed (prepared p) far j.daemon)
+      let o = outcome_is (illegal_fault p n) (after_fault w (prepared_plan p) far j) k _ x at in
+      subst (λ (i : Joint). RequestsRise j.daemon i.daemon) o.1 (failed (prepared_plan p) far j.daemon)
   requests_rise (event.Landed component.Daemon) k x on at =
       landed_rise component.Daemon (option_map (λ r. payload.Daemon r) j.daemon.doubt) k x at
   requests_rise (event.Landed (component.Group h)) k x on at = side_landed h (map.get j.sides h.0) k x at

@@ -18,7 +18,7 @@ use Rattle.dm_model.specs.declared.state.OpenRequest.{OpenRequest}
 use Rattle.dm_model.specs.DaemonCalls.{attributes, begin_put, begin_recall, begin_recall_of, contents_of, copy_stored, daemon_plan, drop_recall, dropped}
 use Rattle.dm_model.specs.DaemonCalls.{end_put, end_recall, hard_delete_of, patch, release, remove, restore, restore_file, step_taken, taken_at, time_at}
 use Rattle.dm_model.specs.Files.{File, file_at}
-use Rattle.dm_model.specs.Plan.{Plan, if_accepted, prepared, refusal_of}
+use Rattle.dm_model.specs.Plan.{Plan, if_accepted, prepared_plan, refusal_of}
 use Rattle.dm_lasting.specs.Comes.{IsCopyStored, IsStoredOf}
 
 -- what is journalled says that the group stored its copy of the bitfile
@@ -126,5 +126,5 @@ module _ (b h : ℕ) where
     stores_plan (daemon_call.Attributes path) stores = file_told path (file_at d path) stores
     stores_plan daemon_call.List stores = stores
 
-    pub says_stored : (c : DaemonCall) → Stores b h (prepared (daemon_plan d c)).payload → IsCopyStored d b h c
+    pub says_stored : (c : DaemonCall) → Stores b h (prepared_plan (daemon_plan d c)).payload → IsCopyStored d b h c
     says_stored c stores = stores_plan c (said (refusal_of (daemon_plan d c)) (daemon_plan d c).payload stores)

@@ -26,14 +26,14 @@ use Rattle.dm_model.specs.declared.plan.Opening.TheVariants as opening
 use Rattle.dm_model.specs.declared.state.Joint.{Joint}
 use Rattle.dm_model.specs.declared.state.OpenRequest.{OpenRequest}
 use Rattle.dm_model.specs.declared.state.RequestKind.TheVariants as kind
-use Rattle.dm_model.specs.DaemonCalls.{begin_put, begin_put_needs, refused}
+use Rattle.dm_model.specs.DaemonCalls.{begin_put, begin_put_needs, daemon_refusal}
 use Rattle.dm_model.specs.DaemonShare.{daemon_after_ending, daemon_after_opening, daemon_after_payload, daemon_without_doubt}
 use Rattle.dm_model.specs.Effects.{contents_with}
 use Rattle.dm_model.specs.Files.{File, file_at, has_open_recall, is_regular, state_of}
 use Rattle.dm_model.specs.Guards.{AllHold, Guarded, first_true}
-use Rattle.dm_model.specs.Plan.{Plan, Needs, answer_of, guards_always, guards_of, if_accepted, illegal_call, prepared, refusal_of}
+use Rattle.dm_model.specs.Plan.{Plan, Needs, answer_of, guards_always, guards_of, if_accepted, illegal_call, prepared_plan, refusal_of}
 use Rattle.dm_model.specs.Step.{Stepped, after_call, outcome_of, step}
-use Rattle.dm_invariant.specs.Kept.{Kept}
+use Rattle.dm_invariant.specs.Kept.{InvariantHolds}
 use Rattle.dm_landing.proofs.NamedRows.{next_not_given}
 use Rattle.dm_shown.proofs.EventsShown.{all_hold, outcome_is}
 use Rattle.dm_shown.proofs.PlansShown.{Shown, called_files, files_of, files_paid}
@@ -41,8 +41,8 @@ use Rattle.dm_lasting.specs.Begun.{PutBegins}
 
 -- a call whose refusals are errors, and that is answered otherwise, isn't refused
 accepted : (x y z : Bool) (e f g : DaemonError) (k n : ℕ) (b c : Bfid) (bytes own : List ℕ) (change was : ℕ)
-    → answer_of (first_true ((x, refused e) ∷ (y, refused f) ∷ (z, refused g) ∷ [])) (answer.PutBegun k b bytes change) ≡ answer.PutBegun n c own was
-    → (first_true ((x, refused e) ∷ (y, refused f) ∷ (z, refused g) ∷ []) ≡ None) × (x ≡ false)
+    → answer_of (first_true ((x, daemon_refusal e) ∷ (y, daemon_refusal f) ∷ (z, daemon_refusal g) ∷ [])) (answer.PutBegun k b bytes change) ≡ answer.PutBegun n c own was
+    → (first_true ((x, daemon_refusal e) ∷ (y, daemon_refusal f) ∷ (z, daemon_refusal g) ∷ []) ≡ None) × (x ≡ false)
 accepted true y z e f g k n b c bytes own change was is = absurd (cc)
 accepted false true z e f g k n b c bytes own change was is = absurd (cc)
 accepted false false true e f g k n b c bytes own change was is = absurd (cc)
@@ -78,17 +78,17 @@ making_hold : (p : Plan) (n : Needs) (o : Option Answer) → o ≡ None → AllH
 making_hold p n None none all = back_holds (guards_always p n) p.making all
 making_hold p n (Some a) none all = absurd (cc)
 
-module _ (j : Joint) (w : ℕ) (kept : Kept j) (path : List ℕ) (asked : List (Option GroupId)) (now k : ℕ) where
+module _ (j : Joint) (w : ℕ) (kept : InvariantHolds j) (path : List ℕ) (asked : List (Option GroupId)) (now k : ℕ) where
   abbrev Planned : Option File → Plan
   Planned o = begin_put j.daemon path asked now k o
 
   begins : (o : Option File) → file_at j.daemon path ≡ o → (n : ℕ) (b : Bfid) (bytes : List ℕ) (change : ℕ) (after : Joint)
-      → outcome_of (illegal_call (Planned o) (begin_put_needs j.sides asked)) (after_call w (prepared (Planned o)) j) (prepared (Planned o)).answer
+      → outcome_of (illegal_call (Planned o) (begin_put_needs j.sides asked)) (after_call w (prepared_plan (Planned o)) j) (prepared_plan (Planned o)).answer
       ≡ Stepped after (answer.PutBegun n b bytes change)
       → PutBegins j after path n b.0 bytes
   begins None at n b bytes change after is =
       let p = Planned None in
-      let o = outcome_is (illegal_call p (begin_put_needs j.sides asked)) (after_call w (prepared p) j) after (prepared p).answer
+      let o = outcome_is (illegal_call p (begin_put_needs j.sides asked)) (after_call w (prepared_plan p) j) after (prepared_plan p).answer
       (answer.PutBegun n b bytes change) is in
       let e = o.2 in
       absurd (cc)
@@ -96,7 +96,7 @@ module _ (j : Joint) (w : ℕ) (kept : Kept j) (path : List ℕ) (asked : List (
       let p = Planned (Some f) in
       let needs = begin_put_needs j.sides asked in
       let t = j.daemon.tables in
-      let o = outcome_is (illegal_call p needs) (after_call w (prepared p) j) after (prepared p).answer (answer.PutBegun n b bytes change) is in
+      let o = outcome_is (illegal_call p needs) (after_call w (prepared_plan p) j) after (prepared_plan p).answer (answer.PutBegun n b bytes change) is in
       let c : Bfid = record { 0 = bfid_of t.site t.counter } in
       let state = state_of j.daemon.requests f.number f.inode.contents in
       let a = accepted (not (is_regular state)) (nat_le entries_limit (map.len t.entries)) (nat_lt number_limit t.counter)
@@ -104,13 +104,13 @@ module _ (j : Joint) (w : ℕ) (kept : Kept j) (path : List ℕ) (asked : List (
       let same = number_is k n c b (bytes_online f.inode.contents) bytes f.inode.change change
       (subst (λ r. answer_of r p.answer ≡ answer.PutBegun n b bytes change) a.0 o.2) in
       let r : OpenRequest = record { ino = record { 0 = f.number }; bfid = c; was = f.inode.change; found = None; kind = kind.Put } in
-      let opens : (prepared p).opens ≡ p.opens = ap (λ q. if_accepted q opening.Nothing p.opens) a.0 in
-      let pays : (prepared p).payload ≡ p.payload = ap (λ q. if_accepted q None p.payload) a.0 in
-      let before = daemon_after_payload (prepared p).payload (daemon_without_doubt (prepared p).heals (prepared p).component (daemon_after_ending (prepared p).ends j.daemon)) in
-      let request : map.get (after_call w (prepared p) j).daemon.requests k ≡ Some r =
+      let opens : (prepared_plan p).opens ≡ p.opens = ap (λ q. if_accepted q opening.Nothing p.opens) a.0 in
+      let pays : (prepared_plan p).payload ≡ p.payload = ap (λ q. if_accepted q None p.payload) a.0 in
+      let before = daemon_after_payload (prepared_plan p).payload (daemon_without_doubt (prepared_plan p).heals (prepared_plan p).component (daemon_after_ending (prepared_plan p).ends j.daemon)) in
+      let request : map.get (after_call w (prepared_plan p) j).daemon.requests k ≡ Some r =
       ap (λ q. map.get (daemon_after_opening q before).requests k) opens ∙ get-here numbers before.requests k r in
-      let files = called_files w j (prepared p) ∙ ap (λ q. files_paid q (files_of j)) pays in
-      let content : map.get (after_call w (prepared p) j).history.contents c.0 ≡ Some (bytes_online f.inode.contents) =
+      let files = called_files w j (prepared_plan p) ∙ ap (λ q. files_paid q (files_of j)) pays in
+      let content : map.get (after_call w (prepared_plan p) j).history.contents c.0 ≡ Some (bytes_online f.inode.contents) =
       ap (λ (q : Shown). map.get q.1 c.0) files
       ∙ ap (λ q. map.get (contents_with c.0 q j.history.contents) c.0) at
       ∙ get-here numbers j.history.contents c.0 (bytes_online f.inode.contents) in
@@ -122,10 +122,10 @@ module _ (j : Joint) (w : ℕ) (kept : Kept j) (path : List ℕ) (asked : List (
         form = regular_may j.daemon.requests f.number f.inode.contents a.1;
         online = same.2;
         content = subst (λ (i : Joint). map.get i.history.contents b.0 ≡ Some bytes) o.1
-            (subst (λ v. map.get (after_call w (prepared p) j).history.contents v ≡ Some bytes) bitfile (content ∙ ap (λ v. Some v) same.2));
+            (subst (λ v. map.get (after_call w (prepared_plan p) j).history.contents v ≡ Some bytes) bitfile (content ∙ ap (λ v. Some v) same.2));
         request = r;
         opened = subst (λ (i : Joint). map.get i.daemon.requests n ≡ Some r) o.1
-            (subst (λ v. map.get (after_call w (prepared p) j).daemon.requests v ≡ Some r) same.0 request);
+            (subst (λ v. map.get (after_call w (prepared_plan p) j).daemon.requests v ≡ Some r) same.0 request);
         put = refl;
         made = bitfile;
         on = refl;
@@ -137,7 +137,7 @@ module _ (j : Joint) (w : ℕ) (kept : Kept j) (path : List ℕ) (asked : List (
             (λ q there. next_not_given t.site t.counter b.0 (sym bitfile) (kept.files.contents_given b.0 q there));
       }
 
-pub put_begins : (j k : Joint) (w : ℕ) (path : List ℕ) (asked : List (Option GroupId)) (now : Secs) (m n : ℕ) (b : Bfid) (bytes : List ℕ) (change : ℕ) → Kept j
+pub put_begins : (j k : Joint) (w : ℕ) (path : List ℕ) (asked : List (Option GroupId)) (now : Secs) (m n : ℕ) (b : Bfid) (bytes : List ℕ) (change : ℕ) → InvariantHolds j
     → step j w (event.Call (call.Daemon (daemon_call.BeginPut path asked now m))) ≡ Stepped k (answer.PutBegun n b bytes change)
     → PutBegins j k path n b.0 bytes
 put_begins j k w path asked now m n b bytes change kept is =

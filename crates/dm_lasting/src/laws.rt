@@ -14,7 +14,7 @@ ghost use Rattle.dm_model.specs.declared.call.Event.{Event};
 ghost use Rattle.dm_model.specs.declared.call.Event.TheVariants as event;
 ghost use Rattle.dm_model.specs.declared.state.Joint.{Joint};
 ghost use Rattle.dm_model.specs.Step.{Stepped, step};
-ghost use Rattle.dm_invariant.specs.Kept.{Kept};
+ghost use Rattle.dm_invariant.specs.Kept.{InvariantHolds};
 ghost use Rattle.dm_lasting.specs.Begun.{PutBegins};
 ghost use Rattle.dm_lasting.specs.Rise.{RequestsRise};
 ghost use Rattle.dm_shown.specs.Along.{GoesOn};
@@ -35,7 +35,7 @@ pub fn stored_by_call()
 /// (docs/DEFINITIONS.md, "Puts that begin").
 pub fn put_begun()
     ensures begun { (j k : Joint) (w : ℕ) (path : List ℕ) (asked : List (Option GroupId)) (now : Secs) (m n : ℕ) (b : Bfid) (bytes : List ℕ)
-        (change : ℕ) → Kept j
+        (change : ℕ) → InvariantHolds j
         → step j w (event.Call (call.Daemon (daemon_call.BeginPut path asked now m))) ≡ Stepped k (answer.PutBegun n b bytes change)
         → PutBegins j k path n b.0 bytes }
 {}

@@ -25,7 +25,7 @@ use Rattle.dm_parts.specs.declared.state.Recall.{Recall}
 use Rattle.dm_parts.specs.declared.state.Side.{Side}
 use Rattle.dm_parts.specs.declared.state.Worker.{Worker}
 use Rattle.dm_tables.specs.Rows.{any}
-use Rattle.dm_rules.specs.Numbers.{greater, narrowed}
+use Rattle.dm_rules.specs.Numbers.{greater, as_word}
 use Rattle.dm_state.specs.Tables.{Numbered}
 use Rattle.dm_state.specs.Limits.{file_limit, files_limit, entries_limit, last_number}
 use Rattle.dm_state.specs.Inodes.{bytes_online}
@@ -263,7 +263,7 @@ changes_used d = (nat_le last_number d.tables.change, refused (error.TooMany las
 abbrev pub too_full : Daemon → Option File → ℕ → Bool × Answer
 too_full d f need =
     let have = size_of d.tables.inodes - length_at f in
-    (nat_lt d.cap (have + need), refused (error.Full (narrowed have) (narrowed need) d.cap))
+    (nat_lt d.cap (have + need), refused (error.Full (as_word have) (as_word need) d.cap))
 
 abbrev pub write : Joint → List ℕ → List ℕ → ℕ → Option File → Plan
 write j path bytes now f =

@@ -8,7 +8,7 @@ use Rattle.dm_machine.specs.declared.state.Joint.{Joint}
 use Rattle.dm_parts.specs.declared.state.Side.{Side}
 use Rattle.dm_parts.specs.declared.state.Worker.{Worker}
 use Rattle.dm_tables.specs.Rows.{adjust, map_values}
-use Rattle.dm_rules.specs.Known.{written, forgotten}
+use Rattle.dm_rules.specs.Known.{known_with_write, known_without_range}
 use Rattle.dm_parts.specs.declared.plan.Ending.{Ending}
 use Rattle.dm_parts.specs.declared.plan.Ending.TheVariants as ending
 use Rattle.dm_parts.specs.declared.plan.Mark.{Mark}
@@ -74,9 +74,9 @@ doubted j (payload.Group g r) = at_group j g.0 (λ x. record x { doubt = Some r 
 abbrev pub marked : Joint → Mark → Joint
 marked j mark.Nothing = j
 marked j (mark.Zone g vsn place zone b index epoch) =
-    at_side j g.0 (λ s. piece_written b.0 index epoch zone (image_by vsn.0 (written place zone) s))
+    at_side j g.0 (λ s. piece_written b.0 index epoch zone (image_by vsn.0 (known_with_write place zone) s))
 marked j (mark.Label g vsn m epoch text) =
-    at_side j g.0 (λ s. mount_labelled m (Some epoch) (image_by vsn.0 (written 0 text) s))
+    at_side j g.0 (λ s. mount_labelled m (Some epoch) (image_by vsn.0 (known_with_write 0 text) s))
 marked j (mark.Read w g b offset bytes) =
     at_worker j w (λ x. record x { recalls = map_values (λ k. read_noted_of b.0 g.0 offset bytes) x.recalls })
 
@@ -84,9 +84,9 @@ marked j (mark.Read w g b offset bytes) =
 abbrev pub spoiled : Joint → Mark → Joint
 spoiled j mark.Nothing = j
 spoiled j (mark.Zone g vsn place zone b index epoch) =
-    at_side j g.0 (λ s. piece_spoiled b.0 index (image_by vsn.0 (forgotten place (length zone)) s))
+    at_side j g.0 (λ s. piece_spoiled b.0 index (image_by vsn.0 (known_without_range place (length zone)) s))
 spoiled j (mark.Label g vsn m epoch text) =
-    at_side j g.0 (λ s. mount_labelled m None (image_by vsn.0 (forgotten 0 (length text)) s))
+    at_side j g.0 (λ s. mount_labelled m None (image_by vsn.0 (known_without_range 0 (length text)) s))
 spoiled j (mark.Read w g b offset bytes) = j
 
 -- OPENINGS: what is made

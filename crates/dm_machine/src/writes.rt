@@ -2,7 +2,7 @@
 
 ghost use Rattle.std.specs.Prelude.{◌≡◌, ◌+◌, ◌-◌, not, is_some, nat_lt, ◌^◌, ◌<◌, ◌≤◌, length, drop, IfOk};
 ghost use Rattle.std.specs.Option.{option_map};
-ghost use Rattle.dm_rules.specs.Numbers.{narrowed as narrowed_of};
+ghost use Rattle.dm_rules.specs.Numbers.{as_word as narrowed_of};
 ghost use Rattle.dm_parts.specs.Files.{numbered, length_at as length_at_of};
 ghost use Rattle.dm_parts.specs.Plan.{prepared};
 ghost use Rattle.dm_machine.specs.DaemonCalls.{patch as patch_plan, patch_of as patch_of_plan, patched as patched_of, too_full as too_full_test, write as write_plan, changes_used as changes_used_test, refused, remove as remove_plan};

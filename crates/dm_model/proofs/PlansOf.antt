@@ -33,7 +33,7 @@ use Rattle.dm_model.specs.declared.state.Reserved.{Reserved}
 use Rattle.dm_model.specs.declared.state.Reusing.{Reusing}
 use Rattle.dm_model.specs.declared.state.Side.{Side}
 use Rattle.dm_model.specs.GroupCalls.{abort, add_volume, commit, delete_of, drop_move, free, free_of, group_plan, group_time, merge_first, merge_next, merge_to, mount_chunk, mount_chunk_of, mount_piece, mount_piece_of, move_done, piece_at, reuse, reuse_first, unmount}
-use Rattle.dm_model.specs.Plan.{Plan, if_accepted, prepared, refusal_of}
+use Rattle.dm_model.specs.Plan.{Plan, if_accepted, prepared_plan, refusal_of}
 use Rattle.dm_model.specs.SideShare.{side_after_call}
 use Rattle.dm_model.specs.Step.{after_call}
 use Rattle.dm_model.specs.VolumeCalls.{is_read_of, mounted_plan, read_mark, volume_plan, zone_mark}
@@ -61,7 +61,7 @@ opens-if : (g : GroupId) (o : Option Answer) (x : Opening) → OpensOf g x → O
 opens-if g None x of = of
 opens-if g (Some refusal) x of = tt
 
-pub prepared-of : (g : GroupId) (p : Plan) → PlanOf g p → IsOfGroup g (prepared p)
+pub prepared-of : (g : GroupId) (p : Plan) → PlanOf g p → IsOfGroup g (prepared_plan p)
 prepared-of g p of = record {
   component = of.component;
   ends = of.ends;
@@ -221,8 +221,8 @@ volume_plan-of g vsn (Some image) (Some x) c = mounted_plan-of g vsn image x c
 
 -- its share, whatever else there is
 pub side-after_group_call : (g : GroupId) (w : ℕ) (c : GroupCall) (j : Joint) (s : Side) → map.get j.sides g.0 ≡ Some s
-    → map.get (after_call w (prepared (group_plan g s.group c)) j).sides g.0
-    ≡ Some (side_after_call (prepared (group_plan g s.group c)) s)
+    → map.get (after_call w (prepared_plan (group_plan g s.group c)) j).sides g.0
+    ≡ Some (side_after_call (prepared_plan (group_plan g s.group c)) s)
 side-after_group_call g w c j s there =
-    side-after_call g w (prepared (group_plan g s.group c)) j s
+    side-after_call g w (prepared_plan (group_plan g s.group c)) j s
     (prepared-of g (group_plan g s.group c) (group_plan-of g s.group c)) there

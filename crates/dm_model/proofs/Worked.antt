@@ -31,9 +31,9 @@ use Rattle.dm_model.specs.DaemonCalls.{begin_put, end_put, is_expired, set_age}
 use Rattle.dm_model.specs.Files.{asked_by}
 use Rattle.dm_model.specs.GroupCalls.{missing, mount_chunk_of, mount_piece_of}
 use Rattle.dm_model.specs.Guards.{lowest_false}
-use Rattle.dm_model.specs.Plan.{illegal_call, illegal_fault, nothing, prepared}
+use Rattle.dm_model.specs.Plan.{illegal_call, illegal_fault, no_needs, prepared_plan}
 use Rattle.dm_model.specs.SideShare.{images_labelled, without_known}
-use Rattle.dm_model.specs.Step.{Illegal, Stepped, landed_doubt, step}
+use Rattle.dm_model.specs.Step.{Illegal, Stepped, doubt_outcome, step}
 use Rattle.dm_rules.specs.Merge.{is_ready}
 use Rattle.dm_tables.specs.Rows.{adjust}
 
@@ -44,24 +44,24 @@ no_fault-next_dropping : (j : Joint) (w : ℕ) (after : Option Bfid) (healed che
     → step j w (event.Fault (call.Daemon (daemon_call.NextDropping after)) healed checkpointed) ≡ Illegal guard.DeviceUsed
 no_fault-next_dropping j w after healed checkpointed = refl
 
-no_fault-missing : (g : GroupId) (x : Group) → illegal_fault (missing g x) nothing ≡ Some guard.DeviceUsed
+no_fault-missing : (g : GroupId) (x : Group) → illegal_fault (missing g x) no_needs ≡ Some guard.DeviceUsed
 no_fault-missing g x = refl
 
 -- a piece that isn't there, and a mount's number that came before: the lower guard is named
 wrong_piece-old_number : (g : GroupId) (x : Group) (r : Reserved) (k m : ℕ) → nat_le x.next_mount m ≡ false
-    → illegal_call (mount_piece_of g x r k m None) nothing ≡ Some guard.Tokens
+    → illegal_call (mount_piece_of g x r k m None) no_needs ≡ Some guard.Tokens
 wrong_piece-old_number g x r k m old = ap (λ b. lowest_false ((false, guard.PieceReserved) ∷ (b, guard.Tokens) ∷ [])) old
 
 wrong_piece-new_number : (g : GroupId) (x : Group) (r : Reserved) (k m : ℕ) → nat_le x.next_mount m ≡ true
-    → illegal_call (mount_piece_of g x r k m None) nothing ≡ Some guard.PieceReserved
+    → illegal_call (mount_piece_of g x r k m None) no_needs ≡ Some guard.PieceReserved
 wrong_piece-new_number g x r k m new = ap (λ b. lowest_false ((false, guard.PieceReserved) ∷ (b, guard.Tokens) ∷ [])) new
 
 -- so it is at an offset where no chunk begins; and a fault, which makes no mount, doesn't look at the number
 wrong_offset-old_number : (g : GroupId) (x : Group) (b : Bfid) (m : ℕ) → nat_le x.next_mount m ≡ false
-    → illegal_call (mount_chunk_of g x b m None) nothing ≡ Some guard.Tokens
+    → illegal_call (mount_chunk_of g x b m None) no_needs ≡ Some guard.Tokens
 wrong_offset-old_number g x b m old = ap (λ t. lowest_false ((false, guard.ChunkWanted) ∷ (t, guard.Tokens) ∷ [])) old
 
-wrong_offset-fault : (g : GroupId) (x : Group) (b : Bfid) (m : ℕ) → illegal_fault (mount_chunk_of g x b m None) nothing ≡ Some guard.ChunkWanted
+wrong_offset-fault : (g : GroupId) (x : Group) (b : Bfid) (m : ℕ) → illegal_fault (mount_chunk_of g x b m None) no_needs ≡ Some guard.ChunkWanted
 wrong_offset-fault g x b m = refl
 
 -- two copies in one group, a second place alone, and no group
@@ -69,23 +69,23 @@ abbrev first_group : GroupId
 first_group = record { 0 = 1 }
 
 asked_twice : (d : Daemon) (path : List ℕ) (now k : ℕ)
-    → illegal_call (begin_put d path (Some first_group ∷ Some first_group ∷ []) now k None) nothing ≡ Some guard.AskedGroups
+    → illegal_call (begin_put d path (Some first_group ∷ Some first_group ∷ []) now k None) no_needs ≡ Some guard.AskedGroups
 asked_twice d path now k = refl
 
 asked_second : (d : Daemon) (path : List ℕ) (now k : ℕ)
-    → illegal_call (begin_put d path (None ∷ Some first_group ∷ []) now k None) nothing ≡ Some guard.AskedGroups
+    → illegal_call (begin_put d path (None ∷ Some first_group ∷ []) now k None) no_needs ≡ Some guard.AskedGroups
 asked_second d path now k = refl
 
 asked_none : (d : Daemon) (path : List ℕ) (now k : ℕ)
-    → illegal_call (begin_put d path (None ∷ None ∷ []) now k None) nothing ≡ Some guard.AskedGroups
+    → illegal_call (begin_put d path (None ∷ None ∷ []) now k None) no_needs ≡ Some guard.AskedGroups
 asked_none d path now k = refl
 
 asked_one : (d : Daemon) (path : List ℕ) (now k : ℕ)
-    → illegal_call (begin_put d path (Some first_group ∷ None ∷ []) now k None) nothing ≡ None
+    → illegal_call (begin_put d path (Some first_group ∷ None ∷ []) now k None) no_needs ≡ None
 asked_one d path now k = refl
 
 -- nothing landed where nothing is in doubt; a look leaves what is
-nothing_landed : (j : Joint) → landed_doubt j component.Daemon None ≡ Illegal guard.InDoubt
+nothing_landed : (j : Joint) → doubt_outcome j component.Daemon None ≡ Illegal guard.InDoubt
 nothing_landed j = refl
 
 look_of_daemon : (j : Joint) (w : ℕ) → step j w (event.Look component.Daemon) ≡ Stepped j answer.Looked
@@ -104,14 +104,14 @@ changed_put = record {
 }
 
 changed_put-answer : (d : Daemon) (k now : ℕ)
-    → (prepared (end_put d k now (Some changed_put))).answer ≡ answer.DaemonRefused (error.Changed 1 2)
+    → (prepared_plan (end_put d k now (Some changed_put))).answer ≡ answer.DaemonRefused (error.Changed 1 2)
 changed_put-answer d k now = refl
 
-changed_put-payload : (d : Daemon) (k now : ℕ) → (prepared (end_put d k now (Some changed_put))).payload ≡ None
+changed_put-payload : (d : Daemon) (k now : ℕ) → (prepared_plan (end_put d k now (Some changed_put))).payload ≡ None
 changed_put-payload d k now = refl
 
 changed_put-ends : (d : Daemon) (k now : ℕ)
-    → (prepared (end_put d k now (Some changed_put))).ends ≡ ending.Put k changed_put.bfid (asked_by (map.get d.tables.entries changed_put.bfid.0))
+    → (prepared_plan (end_put d k now (Some changed_put))).ends ≡ ending.Put k changed_put.bfid (asked_by (map.get d.tables.entries changed_put.bfid.0))
 changed_put-ends d k now = refl
 
 -- ---- ages
@@ -150,10 +150,10 @@ expired-60 : is_expired 60 (with_least 200 (with_least 50 dump_of_ten))
 expired-60 = refl
 
 -- an age of 32 bits is set, and no greater one
-age_too_great : (d : Daemon) (now : ℕ) → (prepared (set_age d 4294967296 now)).answer ≡ answer.DaemonRefused (error.TooMany 4294967295)
+age_too_great : (d : Daemon) (now : ℕ) → (prepared_plan (set_age d 4294967296 now)).answer ≡ answer.DaemonRefused (error.TooMany 4294967295)
 age_too_great d now = refl
 
-age_set : (d : Daemon) (now : ℕ) → (prepared (set_age d 4294967295 now)).answer ≡ answer.AgeSet
+age_set : (d : Daemon) (now : ℕ) → (prepared_plan (set_age d 4294967295 now)).answer ≡ answer.AgeSet
 age_set d now = refl
 
 -- ---- volumes

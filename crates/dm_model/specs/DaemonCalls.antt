@@ -48,39 +48,39 @@ use Rattle.dm_model.specs.declared.state.Side.{Side}
 use Rattle.dm_model.specs.declared.state.Worker.{Worker}
 use Rattle.dm_model.specs.Files.{File, all_rows, asked_by, file_at, groups_of, has_open_request, is_away, is_dual, is_put, is_recall, is_regular, length_at, places_of, row_of, state_of}
 use Rattle.dm_model.specs.Guards.{Guarded}
-use Rattle.dm_model.specs.Plan.{Plan, Needs, quiet, asking, nothing}
-use Rattle.dm_rules.specs.Patching.{patched}
-use Rattle.dm_rules.specs.Numbers.{greater, narrowed}
+use Rattle.dm_model.specs.Plan.{Plan, Needs, quiet_plan, healing_plan, no_needs}
+use Rattle.dm_rules.specs.Patching.{with_patch}
+use Rattle.dm_rules.specs.Numbers.{greater, as_word}
 use Rattle.dm_tables.specs.Rows.{any}
 
 -- ---- the forms that plans have
 
 -- a call that heals and changes nothing
-abbrev pub asking_daemon : Answer → Plan
-asking_daemon a = asking component.Daemon a
+abbrev pub daemon_healing_plan : Answer → Plan
+daemon_healing_plan a = healing_plan component.Daemon a
 
-abbrev pub refused : DaemonError → Answer
-refused e = answer.DaemonRefused e
+abbrev pub daemon_refusal : DaemonError → Answer
+daemon_refusal e = answer.DaemonRefused e
 
 -- a call that takes a request which isn't open
 abbrev pub no_request : Plan
-no_request = record (asking_daemon answer.Failed) { own = (false, guard.Tokens) ∷ [] }
+no_request = record (daemon_healing_plan answer.Failed) { own = (false, guard.Tokens) ∷ [] }
 
 -- there is no file of that path
 abbrev pub no_file : Plan
-no_file = record (asking_daemon answer.Failed) { refusals = (true, refused error.NoFile) ∷ [] }
+no_file = record (daemon_healing_plan answer.Failed) { refusals = (true, daemon_refusal error.NoFile) ∷ [] }
 
 -- the daemon's time after a step whose command read the clock so
 abbrev pub time_at : Daemon → ℕ → ℕ
 time_at d now = greater now d.tables.time.0
 
 -- a step journalled at that time
-abbrev pub journalled : Daemon → ℕ → DaemonStep → Option Payload
-journalled d now s = Some (payload.Daemon (record { time = record { 0 = time_at d now }; step = s }))
+abbrev pub journal_payload : Daemon → ℕ → DaemonStep → Option Payload
+journal_payload d now s = Some (payload.Daemon (record { time = record { 0 = time_at d now }; step = s }))
 
 -- a call that journals a step and makes and spends nothing
-abbrev pub stepping : List (Bool × Answer) → Option Payload → Answer → Plan
-stepping refusals record_of a = record (asking_daemon a) { refusals = refusals; payload = record_of }
+abbrev pub step_plan : List (Bool × Answer) → Option Payload → Answer → Plan
+step_plan refusals record_of a = record (daemon_healing_plan a) { refusals = refusals; payload = record_of }
 
 -- the number of a request that is made was never used: it is the next, or a greater one
 abbrev pub is_new_request : Daemon → ℕ → Guarded
@@ -90,7 +90,7 @@ is_new_request d k = (nat_le d.next_request k, guard.Tokens)
 
 -- as many as there may be
 abbrev pub too_many : ℕ → Answer
-too_many limit = refused (error.TooMany limit)
+too_many limit = daemon_refusal (error.TooMany limit)
 
 -- the change numbers are used up
 abbrev pub changes_used : Daemon → Bool × Answer
@@ -102,7 +102,7 @@ names_used d = (nat_le files_limit (map.len d.tables.names), too_many files_limi
 
 -- files and dumps have `have` bytes beside the `need` that the step wants, and together they would pass the cap
 abbrev pub too_full : Daemon → ℕ → ℕ → Bool × Answer
-too_full d have need = (nat_lt d.cap (have + need), refused (error.Full (narrowed have) (narrowed need) d.cap))
+too_full d have need = (nat_lt d.cap (have + need), daemon_refusal (error.Full (as_word have) (as_word need) d.cap))
 
 -- the bytes of all files and dumps without those of this file
 abbrev pub size_without : Daemon → Option File → ℕ
@@ -111,7 +111,7 @@ size_without d f = size_of d.tables - length_at f
 -- the inode was changed or removed since the request began
 abbrev pub changed_by : ℕ → Option ℕ → List (Bool × Answer)
 changed_by was None = []
-changed_by was (Some found) = (true, refused (error.Changed was found)) ∷ []
+changed_by was (Some found) = (true, daemon_refusal (error.Changed was found)) ∷ []
 
 abbrev pub changed_in : OpenRequest → List (Bool × Answer)
 changed_in r = changed_by r.was r.found
@@ -140,7 +140,7 @@ may_ask asked = (is_first_filled asked && are_one_or_two (groups_of asked), guar
 abbrev pub put_refusals : Daemon → File → List (Bool × Answer)
 put_refusals d f =
     let state = state_of d.requests f.number f.inode.contents in
-    (not (is_regular state), refused (error.WrongState state))
+    (not (is_regular state), daemon_refusal (error.WrongState state))
     ∷ (nat_le entries_limit (map.len d.tables.entries), too_many entries_limit)
     ∷ (nat_lt number_limit d.tables.counter, too_many number_limit)
     ∷ []
@@ -153,11 +153,11 @@ begin_put d path asked now k (Some f) =
     let groups = groups_of asked in
     let request : OpenRequest =
     record { ino = record { 0 = f.number }; bfid = b; was = f.inode.change; found = None; kind = kind.Put } in
-    record (asking_daemon (answer.PutBegun k b bytes f.inode.change)) {
+    record (daemon_healing_plan (answer.PutBegun k b bytes f.inode.change)) {
       own = may_ask asked ∷ [];
       making = is_new_request d k ∷ [];
       refusals = put_refusals d f;
-      payload = journalled d now (step.BeginPut path b groups);
+      payload = journal_payload d now (step.BeginPut path b groups);
       opens = opening.Put k request (length bytes) groups;
     }
 
@@ -179,7 +179,7 @@ is_awaited (Some e) g = asks e g && not (has_stored e g)
 abbrev pub copy_stored : Daemon → GroupId → ℕ → Option OpenRequest → Plan
 copy_stored d g now None = no_request
 copy_stored d g now (Some r) =
-    record (stepping (changed_in r) (journalled d now (step.Stored r.bfid g)) answer.CopyStored) {
+    record (step_plan (changed_in r) (journal_payload d now (step.Stored r.bfid g)) answer.CopyStored) {
       own =
           (is_put r.kind, guard.CopyCommitted)
           ∷ (is_awaited (map.get d.tables.entries r.bfid.0) g.0, guard.CopyCommitted)
@@ -192,7 +192,7 @@ committed_in (Some h) b = is_some (map.get h.committed b)
 
 -- the group has committed the bitfile
 abbrev pub copy_stored_needs : History → GroupId → Option OpenRequest → Needs
-copy_stored_needs h g None = nothing
+copy_stored_needs h g None = no_needs
 copy_stored_needs h g (Some r) =
     record { token = []; lasting = (committed_in (map.get h.groups g.0) r.bfid.0, guard.CopyCommitted) ∷ [] }
 
@@ -208,7 +208,7 @@ end_put d k now (Some r) =
     let entry = map.get d.tables.entries r.bfid.0 in
     let dual = is_stored_if entry in
     let ended = answer.PutEnded (cond dual end.Dual end.Regular) in
-    record (stepping (changed_in r) (journalled d now (step.EndPut r.ino r.bfid dual)) ended) {
+    record (step_plan (changed_in r) (journal_payload d now (step.EndPut r.ino r.bfid dual)) ended) {
       own = (is_put r.kind, guard.NothingReserved) ∷ [];
       ends = ending.Put k r.bfid (asked_by entry);
     }
@@ -222,7 +222,7 @@ is_reserved sides b = any (λ g s. has_reservation (map.get s.copies b)) sides
 
 -- no reservation of the bitfile is open
 abbrev pub end_put_needs : Numbered Side → Option OpenRequest → Needs
-end_put_needs sides None = nothing
+end_put_needs sides None = no_needs
 end_put_needs sides (Some r) =
     record { token = (not (is_reserved sides r.bfid.0), guard.NothingReserved) ∷ []; lasting = [] }
 
@@ -232,8 +232,8 @@ abbrev pub release : Daemon → List ℕ → ℕ → Option File → Plan
 release d path now None = no_file
 release d path now (Some f) =
     let state = state_of d.requests f.number f.inode.contents in
-    stepping ((not (is_dual state), refused (error.WrongState state)) ∷ [])
-    (journalled d now (step.Release path))
+    step_plan ((not (is_dual state), daemon_refusal (error.WrongState state)) ∷ [])
+    (journal_payload d now (step.Release path))
     answer.Released
 
 -- ---- begin_recall
@@ -244,15 +244,15 @@ recall_of_away d k f len b =
     let asked = asked_by (map.get d.tables.entries b.0) in
     let request : OpenRequest =
     record { ino = record { 0 = f.number }; bfid = b; was = f.inode.change; found = None; kind = kind.Recall } in
-    record (asking_daemon (answer.RecallBegun k b len asked)) {
+    record (daemon_healing_plan (answer.RecallBegun k b len asked)) {
       making = is_new_request d k ∷ [];
       opens = opening.Recall k request (record { bfid = b; len = len; asked = asked; reads = map.empty });
     }
 
 abbrev pub begin_recall_of : Daemon → ℕ → File → Contents → Plan
-begin_recall_of d k f (contents.Regular bytes) = asking_daemon (answer.Online bytes)
-begin_recall_of d k f (contents.Making bytes b) = asking_daemon (answer.Online bytes)
-begin_recall_of d k f (contents.Dual bytes b) = asking_daemon (answer.Online bytes)
+begin_recall_of d k f (contents.Regular bytes) = daemon_healing_plan (answer.Online bytes)
+begin_recall_of d k f (contents.Making bytes b) = daemon_healing_plan (answer.Online bytes)
+begin_recall_of d k f (contents.Dual bytes b) = daemon_healing_plan (answer.Online bytes)
 begin_recall_of d k f (contents.Offline len b) = recall_of_away d k f len b
 
 abbrev pub begin_recall : Daemon → ℕ → Option File → Plan
@@ -277,13 +277,13 @@ abbrev pub step_taken : Daemon → ℕ → ℕ → List ℕ → Contents → Opt
 step_taken d now n bytes (contents.Regular old) = None
 step_taken d now n bytes (contents.Making old b) = None
 step_taken d now n bytes (contents.Dual old b) = None
-step_taken d now n bytes (contents.Offline len b) = journalled d now (step.Taken (record { 0 = n }) bytes)
+step_taken d now n bytes (contents.Offline len b) = journal_payload d now (step.Taken (record { 0 = n }) bytes)
 
 abbrev pub end_recall : Daemon → ℕ → List ℕ → ℕ → Option OpenRequest → Plan
 end_recall d k bytes now None = no_request
 end_recall d k bytes now (Some r) =
     let here = contents_of (map.get d.tables.inodes r.ino.0) in
-    record (stepping (changed_in r) (step_taken d now r.ino.0 bytes here) (answer.Recalled (bytes_taken bytes here))) {
+    record (step_plan (changed_in r) (step_taken d now r.ino.0 bytes here) (answer.Recalled (bytes_taken bytes here))) {
       own = (is_recall r.kind, guard.RecallRead) ∷ [];
       ends = ending.Recall k;
     }
@@ -318,7 +318,7 @@ end_recall_needs w k bytes = record {
 -- it looks at the request alone, uses no device and so leaves a step in doubt
 abbrev pub drop_recall : Daemon → ℕ → Option OpenRequest → Plan
 drop_recall d k None = record no_request { device = false; heals = false }
-drop_recall d k (Some r) = record (quiet component.Daemon answer.RecallDropped) {
+drop_recall d k (Some r) = record (quiet_plan component.Daemon answer.RecallDropped) {
   own = (is_recall r.kind, guard.RecallRead) ∷ [];
   ends = ending.Recall k;
 }
@@ -336,13 +336,13 @@ names_used_if d (Some f) = (false, too_many files_limit)
 abbrev pub write : Daemon → List ℕ → List ℕ → ℕ → Option File → Plan
 write d path bytes now f =
     let change = d.tables.change + 1 in
-    stepping
+    step_plan
     ((nat_lt file_limit (length bytes), too_many file_limit)
     ∷ names_used_if d f
     ∷ changes_used d
     ∷ too_full d (size_without d f) (length bytes)
     ∷ [])
-    (journalled d now (step.Write path change bytes))
+    (journal_payload d now (step.Write path change bytes))
     (answer.Changed change)
 
 -- the range of a patch ends behind the longest file
@@ -352,65 +352,65 @@ is_patch_too_long offset bytes = (nat_lt file_limit (offset + length bytes), too
 -- what is journalled is the write of the whole bytes
 abbrev pub patch : Daemon → List ℕ → ℕ → List ℕ → ℕ → Option File → Plan
 patch d path offset bytes now None =
-    record no_file { refusals = is_patch_too_long offset bytes ∷ (true, refused error.NoFile) ∷ [] }
+    record no_file { refusals = is_patch_too_long offset bytes ∷ (true, daemon_refusal error.NoFile) ∷ [] }
 patch d path offset bytes now (Some f) =
     let state = state_of d.requests f.number f.inode.contents in
-    let whole = patched offset bytes (bytes_online f.inode.contents) in
+    let whole = with_patch offset bytes (bytes_online f.inode.contents) in
     let change = d.tables.change + 1 in
-    stepping
+    step_plan
     (is_patch_too_long offset bytes
-    ∷ (is_away state, refused (error.WrongState state))
+    ∷ (is_away state, daemon_refusal (error.WrongState state))
     ∷ changes_used d
     ∷ too_full d (size_without d (Some f)) (length whole)
     ∷ [])
-    (journalled d now (step.Write path change whole))
+    (journal_payload d now (step.Write path change whole))
     (answer.Changed change)
 
 abbrev pub remove : Daemon → List ℕ → ℕ → Option File → Plan
 remove d path now None = no_file
 remove d path now (Some f) =
     let change = d.tables.change + 1 in
-    stepping (changes_used d ∷ []) (journalled d now (step.Remove path change)) (answer.Changed change)
+    step_plan (changes_used d ∷ []) (journal_payload d now (step.Remove path change)) (answer.Changed change)
 
 -- ---- dumps
 
 abbrev pub make_dump : Daemon → List ℕ → ℕ → Plan
 make_dump d name now =
     let dump = new_dump (time_at d now) d.tables.age d.tables.names d.tables.inodes in
-    stepping
-    ((is_some (map.get d.tables.dumps name), refused error.Exists)
+    step_plan
+    ((is_some (map.get d.tables.dumps name), daemon_refusal error.Exists)
     ∷ (nat_le dumps_limit (map.len d.tables.dumps), too_many dumps_limit)
     ∷ too_full d (size_of d.tables) (dump_size dump)
     ∷ [])
-    (journalled d now (step.Dump name))
+    (journal_payload d now (step.Dump name))
     (answer.DumpMade (map.len dump.files))
 
 abbrev pub undump : Daemon → List ℕ → ℕ → Plan
 undump d name now =
-    stepping ((not (is_some (map.get d.tables.dumps name)), refused error.NoDump) ∷ [])
-    (journalled d now (step.Undump name))
+    step_plan ((not (is_some (map.get d.tables.dumps name)), daemon_refusal error.NoDump) ∷ [])
+    (journal_payload d now (step.Undump name))
     answer.Undumped
 
 -- there is no dump of that name, or it has no file of that path
 abbrev pub restore_nothing : DaemonError → Plan
-restore_nothing e = record (asking_daemon answer.Failed) { refusals = (true, refused e) ∷ [] }
+restore_nothing e = record (daemon_healing_plan answer.Failed) { refusals = (true, daemon_refusal e) ∷ [] }
 
 -- the dump isn't young at the time of the step
 abbrev pub is_expired : ℕ → Dump → Bool × Answer
-is_expired now dump = (not (is_young now dump), refused (error.Expired (record { 0 = now }) dump.made dump.least))
+is_expired now dump = (not (is_young now dump), daemon_refusal (error.Expired (record { 0 = now }) dump.made dump.least))
 
 abbrev pub restore_file : Daemon → List ℕ → List ℕ → List ℕ → ℕ → Dump → Option DumpInode → Plan
 restore_file d name path target now dump None = restore_nothing error.NoFile
 restore_file d name path target now dump (Some file) =
     let change = d.tables.change + 1 in
-    stepping
+    step_plan
     (is_expired (time_at d now) dump
-    ∷ (is_some (map.get d.tables.names target), refused error.Exists)
+    ∷ (is_some (map.get d.tables.names target), daemon_refusal error.Exists)
     ∷ names_used d
     ∷ changes_used d
     ∷ too_full d (size_of d.tables) (length_dumped file)
     ∷ [])
-    (journalled d now (step.Restore name path target change))
+    (journal_payload d now (step.Restore name path target change))
     (answer.Changed change)
 
 abbrev pub restore : Daemon → List ℕ → List ℕ → List ℕ → ℕ → Option Dump → Plan
@@ -422,7 +422,7 @@ restore d name path target now (Some dump) =
 
 abbrev pub set_age : Daemon → ℕ → ℕ → Plan
 set_age d age now =
-    stepping ((nat_lt age_limit age, too_many age_limit) ∷ []) (journalled d now (step.Age age)) answer.AgeSet
+    step_plan ((nat_lt age_limit age, too_many age_limit) ∷ []) (journal_payload d now (step.Age age)) answer.AgeSet
 
 -- whether a hard delete at this time takes the entry
 abbrev pub is_taken_at : Daemon → ℕ → ℕ → Entry → Bool
@@ -434,9 +434,9 @@ taken_at d now =
     prelude.map (λ e. record { 0 = e.0 }) (filter (λ e. is_taken_at d now e.0 e.1) (map.entries d.tables.entries))
 
 abbrev pub hard_delete_of : Daemon → ℕ → List Bfid → Plan
-hard_delete_of d now [] = asking_daemon (answer.HardDeleted 0)
+hard_delete_of d now [] = daemon_healing_plan (answer.HardDeleted 0)
 hard_delete_of d now (b ∷ bs) =
-    stepping [] (journalled d now (step.HardDelete (b ∷ bs))) (answer.HardDeleted (length (b ∷ bs)))
+    step_plan [] (journal_payload d now (step.HardDelete (b ∷ bs))) (answer.HardDeleted (length (b ∷ bs)))
 
 abbrev pub hard_delete : Daemon → ℕ → Plan
 hard_delete d now = hard_delete_of d now (taken_at d (time_at d now))
@@ -456,12 +456,12 @@ dropping_behind entries after =
 -- it uses no device, and so leaves a step in doubt
 abbrev pub next_dropping : Daemon → Option Bfid → Plan
 next_dropping d after =
-    quiet component.Daemon (answer.NextDropping (slice_get (dropping_behind d.tables.entries after) 0))
+    quiet_plan component.Daemon (answer.NextDropping (slice_get (dropping_behind d.tables.entries after) 0))
 
 abbrev pub dropped : Daemon → Bfid → ℕ → Option Entry → Plan
-dropped d b now None = asking_daemon (answer.Dropped false)
+dropped d b now None = daemon_healing_plan (answer.Dropped false)
 dropped d b now (Some e) =
-    record (stepping [] (journalled d now (step.Dropped b)) (answer.Dropped true)) {
+    record (step_plan [] (journal_payload d now (step.Dropped b)) (answer.Dropped true)) {
       own = (e.dropping, guard.CopiesDeleted) ∷ [];
     }
 
@@ -471,7 +471,7 @@ deleted_in (Some h) b = is_some (map.get h.deleted b)
 
 -- each group that was asked was told to delete the bitfile
 abbrev pub dropped_needs : History → Bfid → Option Entry → Needs
-dropped_needs h b None = nothing
+dropped_needs h b None = no_needs
 dropped_needs h b (Some e) = record {
   token = [];
   lasting = (list_all (λ g. deleted_in (map.get h.groups g.0) b.0) (groups_asked e), guard.CopiesDeleted) ∷ [];
@@ -481,7 +481,7 @@ dropped_needs h b (Some e) = record {
 
 abbrev pub attributes : Daemon → List ℕ → Option File → Plan
 attributes d path None = no_file
-attributes d path (Some f) = asking_daemon (answer.File (row_of d.requests path f))
+attributes d path (Some f) = daemon_healing_plan (answer.File (row_of d.requests path f))
 
 -- ---- all calls
 
@@ -504,26 +504,26 @@ daemon_plan d (call.HardDelete now) = hard_delete d now.0
 daemon_plan d (call.NextDropping after) = next_dropping d after
 daemon_plan d (call.Dropped b now) = dropped d b now.0 (map.get d.tables.entries b.0)
 daemon_plan d (call.Attributes path) = attributes d path (file_at d path)
-daemon_plan d call.List = asking_daemon (answer.Files (all_rows d))
+daemon_plan d call.List = daemon_healing_plan (answer.Files (all_rows d))
 
 -- the worker is the one that calls, if anything is known of it
 abbrev pub daemon_needs : Numbered Side → Option Worker → History → Daemon → DaemonCall → Needs
 daemon_needs sides w h d (call.BeginPut path asked now k) = begin_put_needs sides asked
 daemon_needs sides w h d (call.CopyStored k group now) = copy_stored_needs h group (map.get d.requests k)
 daemon_needs sides w h d (call.EndPut k now) = end_put_needs sides (map.get d.requests k)
-daemon_needs sides w h d (call.Release path now) = nothing
-daemon_needs sides w h d (call.BeginRecall path k) = nothing
+daemon_needs sides w h d (call.Release path now) = no_needs
+daemon_needs sides w h d (call.BeginRecall path k) = no_needs
 daemon_needs sides w h d (call.EndRecall k bytes now) = end_recall_needs w k bytes
 daemon_needs sides w h d (call.DropRecall k) = drop_recall_needs w k
-daemon_needs sides w h d (call.Write path bytes now) = nothing
-daemon_needs sides w h d (call.Patch path offset bytes now) = nothing
-daemon_needs sides w h d (call.Remove path now) = nothing
-daemon_needs sides w h d (call.MakeDump name now) = nothing
-daemon_needs sides w h d (call.Undump name now) = nothing
-daemon_needs sides w h d (call.Restore name path target now) = nothing
-daemon_needs sides w h d (call.SetAge age now) = nothing
-daemon_needs sides w h d (call.HardDelete now) = nothing
-daemon_needs sides w h d (call.NextDropping after) = nothing
+daemon_needs sides w h d (call.Write path bytes now) = no_needs
+daemon_needs sides w h d (call.Patch path offset bytes now) = no_needs
+daemon_needs sides w h d (call.Remove path now) = no_needs
+daemon_needs sides w h d (call.MakeDump name now) = no_needs
+daemon_needs sides w h d (call.Undump name now) = no_needs
+daemon_needs sides w h d (call.Restore name path target now) = no_needs
+daemon_needs sides w h d (call.SetAge age now) = no_needs
+daemon_needs sides w h d (call.HardDelete now) = no_needs
+daemon_needs sides w h d (call.NextDropping after) = no_needs
 daemon_needs sides w h d (call.Dropped b now) = dropped_needs h b (map.get d.tables.entries b.0)
-daemon_needs sides w h d (call.Attributes path) = nothing
-daemon_needs sides w h d call.List = nothing
+daemon_needs sides w h d (call.Attributes path) = no_needs
+daemon_needs sides w h d call.List = no_needs

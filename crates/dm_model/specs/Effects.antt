@@ -100,8 +100,8 @@ groups_of_payload (Some (payload.Daemon r)) = []
 groups_of_payload (Some (payload.Group g r)) = g ∷ []
 
 -- the payload may be in the journal; where there is none an older doubt stays
-abbrev pub doubting : Option Payload → Joint → Joint
-doubting p j = record j {
+abbrev pub joint_with_doubt : Option Payload → Joint → Joint
+joint_with_doubt p j = record j {
   daemon = daemon_doubting p j.daemon;
   sides = at_each (side_doubting p) (groups_of_payload p) j.sides;
 }

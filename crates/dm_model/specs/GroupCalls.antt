@@ -2,7 +2,7 @@
 --
 -- For each call there is its plan, made of the group alone, and below it what it needs of the worker, of mounts and
 -- copies, and of what is true for good. A definition takes what was looked up, and not the table: so it goes by cases.
-use Rattle.std.specs.Prelude.{ℕ, ◌+◌, ◌-◌, ◌^◌, Bool, true, false, cond, not, ◌&&◌, Option, None, Some, is_some, is_none, List, [], ◌∷◌, ◌++◌, take, drop, nat_eq, nat_lt, nat_le, length}
+use Rattle.std.specs.Prelude.{ℕ, ◌+◌, ◌-◌, Bool, true, false, cond, not, ◌&&◌, Option, None, Some, is_some, is_none, List, [], ◌∷◌, ◌++◌, take, drop, nat_eq, nat_lt, nat_le, length}
 use Rattle.std.specs.Prelude as prelude
 use Rattle.std.specs.List.{flat_map, list_all, list_any}
 use Rattle.std.specs.FinMap as map
@@ -53,10 +53,10 @@ use Rattle.dm_model.specs.declared.state.Side.{Side}
 use Rattle.dm_model.specs.declared.state.Worker.{Worker}
 use Rattle.dm_model.specs.declared.state.WrittenZone.{WrittenZone}
 use Rattle.dm_model.specs.Guards.{Guarded}
-use Rattle.dm_model.specs.Plan.{Plan, Needs, quiet, asking, nothing}
+use Rattle.dm_model.specs.Plan.{Plan, Needs, quiet_plan, healing_plan, no_needs}
 use Rattle.dm_model.specs.Volumes.{all_volumes, epoch_of, is_configured, mount_refusal, usage_of}
 use Rattle.dm_rules.specs.declared.space.Space.{Space}
-use Rattle.dm_rules.specs.Numbers.{greater, narrowed}
+use Rattle.dm_rules.specs.Numbers.{greater, as_word, count_limit}
 use Rattle.dm_rules.specs.Plan.{rooms, chunks_of}
 use Rattle.dm_rules.specs.Version.{has_sum}
 use Rattle.dm_rules.specs.Zone.{chunk_count, chunk_sum, zone_of}
@@ -66,22 +66,22 @@ use Rattle.sha2.specs.Sha256.{sha256}
 -- ---- the forms that plans have
 
 -- a call that uses no device, and one that heals
-abbrev pub grouped : GroupId → Answer → Plan
-grouped g a = quiet (component.Group g) a
+abbrev pub group_quiet_plan : GroupId → Answer → Plan
+group_quiet_plan g a = quiet_plan (component.Group g) a
 
-abbrev pub asking_group : GroupId → Answer → Plan
-asking_group g a = asking (component.Group g) a
+abbrev pub group_healing_plan : GroupId → Answer → Plan
+group_healing_plan g a = healing_plan (component.Group g) a
 
-abbrev pub refused : GroupError → Answer
-refused e = answer.GroupRefused e
+abbrev pub group_refusal : GroupError → Answer
+group_refusal e = answer.GroupRefused e
 
 -- the group isn't configured
 abbrev pub no_group : GroupId → Plan
-no_group g = record (grouped g answer.Failed) { own = (false, guard.Configured) ∷ [] }
+no_group g = record (group_quiet_plan g answer.Failed) { own = (false, guard.Configured) ∷ [] }
 
 -- a token that the call takes isn't open
 abbrev pub no_token : GroupId → Plan
-no_token g = record (grouped g answer.Failed) { own = (false, guard.Tokens) ∷ [] }
+no_token g = record (group_quiet_plan g answer.Failed) { own = (false, guard.Tokens) ∷ [] }
 
 -- the number of a token that is made was never used: it is the next, or a greater one
 abbrev pub is_new : ℕ → ℕ → Guarded
@@ -91,8 +91,8 @@ abbrev pub group_time : Group → ℕ → ℕ
 group_time group now = greater now group.tables.time.0
 
 -- a step journalled at that time
-abbrev pub group_journalled : GroupId → Group → ℕ → GroupStep → Option Payload
-group_journalled g group now s = Some (payload.Group g (record { time = record { 0 = group_time group now }; step = s }))
+abbrev pub group_journal_payload : GroupId → Group → ℕ → GroupStep → Option Payload
+group_journal_payload g group now s = Some (payload.Group g (record { time = record { 0 = group_time group now }; step = s }))
 
 -- what a call needs of its worker and its tokens alone
 abbrev pub of_tokens : List Guarded → Needs
@@ -101,8 +101,8 @@ of_tokens guards = record { token = guards; lasting = [] }
 -- ---- mounts
 
 -- the plan, of a call that mounts a volume where that isn't mounted yet and a drive is free
-abbrev pub mounting : Plan → GroupId → Group → ℕ → Vsn → Origin → Plan
-mounting p g group m vsn made = record p {
+abbrev pub mount_plan : Plan → GroupId → Group → ℕ → Vsn → Origin → Plan
+mount_plan p g group m vsn made = record p {
   making = is_new group.next_mount m ∷ [];
   refusals = mount_refusal 0 group vsn.0 ∷ [];
   opens = opening.Mount g m vsn (epoch_of group vsn.0) made;
@@ -110,13 +110,13 @@ mounting p g group m vsn made = record p {
 }
 
 -- the plan, of a call that would mount something that isn't there
-abbrev pub mounting_nothing : Plan → Group → ℕ → Guarded → Plan
-mounting_nothing p group m missing = record p { own = missing ∷ []; making = is_new group.next_mount m ∷ [] }
+abbrev pub no_mount_plan : Plan → Group → ℕ → Guarded → Plan
+no_mount_plan p group m missing = record p { own = missing ∷ []; making = is_new group.next_mount m ∷ [] }
 
 abbrev pub mount_new : GroupId → Group → Vsn → ℕ → Plan
 mount_new g group vsn m =
     let listed = is_some (map.get group.tables.volumes vsn.0) in
-    record (mounting (asking_group g answer.Failed) g group m vsn (origin.New listed group.conf.format)) {
+    record (mount_plan (group_healing_plan g answer.Failed) g group m vsn (origin.New listed group.conf.format)) {
       own = (is_configured group vsn.0, guard.VolumeConfigured) ∷ [];
     }
 
@@ -127,9 +127,9 @@ piece_at k (p ∷ ps) = cond (nat_eq k 0) (Some p) (piece_at (k - 1) ps)
 
 abbrev pub mount_piece_of : GroupId → Group → Reserved → ℕ → ℕ → Option Piece → Plan
 mount_piece_of g group r k m None =
-    mounting_nothing (grouped g answer.Failed) group m (false, guard.PieceReserved)
+    no_mount_plan (group_quiet_plan g answer.Failed) group m (false, guard.PieceReserved)
 mount_piece_of g group r k m (Some p) =
-    mounting (grouped g answer.Failed) g group m p.vsn (origin.Piece r.bfid k p r.chunk)
+    mount_plan (group_quiet_plan g answer.Failed) g group m p.vsn (origin.Piece r.bfid k p r.chunk)
 
 abbrev pub mount_piece : GroupId → Group → ℕ → ℕ → Option Reserved → Plan
 mount_piece g group k m None = no_token g
@@ -137,9 +137,9 @@ mount_piece g group k m (Some r) = mount_piece_of g group r k m (piece_at k r.pi
 
 abbrev pub mount_chunk_of : GroupId → Group → Bfid → ℕ → Option Chunk → Plan
 mount_chunk_of g group b m None =
-    mounting_nothing (asking_group g answer.Failed) group m (false, guard.ChunkWanted)
+    no_mount_plan (group_healing_plan g answer.Failed) group m (false, guard.ChunkWanted)
 mount_chunk_of g group b m (Some c) =
-    record (mounting (asking_group g answer.Failed) g group m c.vsn (origin.Chunk b c)) {
+    record (mount_plan (group_healing_plan g answer.Failed) g group m c.vsn (origin.Chunk b c)) {
       answer = answer.AtChunk m (epoch_of group c.vsn.0) c;
     }
 
@@ -147,7 +147,7 @@ mount_chunk_of g group b m (Some c) =
 abbrev pub mount_chunk : GroupId → Group → Bfid → ℕ → ℕ → Option BitfileRow → Plan
 mount_chunk g group b offset m None = mount_chunk_of g group b m None
 mount_chunk g group b offset m (Some row) =
-    cond (nat_eq offset row.len) (asking_group g answer.AtEnd) (mount_chunk_of g group b m (chunk_at offset row.chunks))
+    cond (nat_eq offset row.len) (group_healing_plan g answer.AtEnd) (mount_chunk_of g group b m (chunk_at offset row.chunks))
 
 -- the worker has an open recall of the bitfile that asks the group
 abbrev pub is_recall_from : ℕ → ℕ → Recall → Bool
@@ -162,7 +162,7 @@ mount_chunk_needs w g b = of_tokens ((recalls_from b.0 g.0 w, guard.ChunkWanted)
 
 abbrev pub unmount : GroupId → ℕ → Option Mounted → Plan
 unmount g m None = no_token g
-unmount g m (Some x) = record (grouped g answer.Unmounted) { ends = ending.Mount g m }
+unmount g m (Some x) = record (group_quiet_plan g answer.Unmounted) { ends = ending.Mount g m }
 
 abbrev pub is_of_move : Origin → Bool
 is_of_move (origin.New listed format) = false
@@ -182,20 +182,20 @@ unmount_needs x = of_tokens ((may_unmount x, guard.NoMove) ∷ [])
 -- ---- new volumes
 
 abbrev pub missing : GroupId → Group → Plan
-missing g group = grouped g (answer.Missing (least_missing group.tables.volumes group.conf.volumes))
+missing g group = group_quiet_plan g (answer.Missing (least_missing group.tables.volumes group.conf.volumes))
 
 -- the volume gets the least slot that is free, and the group's format
 abbrev pub add_volume : GroupId → Group → ℕ → ℕ → Option Mounted → Plan
 add_volume g group m now None = no_token g
 add_volume g group m now (Some x) =
     let slot = free_slot group.tables.volumes volumes_limit 0 in
-    record (asking_group g answer.VolumeAdded) {
+    record (group_healing_plan g answer.VolumeAdded) {
       own =
           (is_none (map.get group.tables.volumes x.vsn.0), guard.NewVolumeLabelled)
           ∷ (is_none group.doubt, guard.NewVolumeLabelled)
           ∷ [];
       ends = ending.Mount g m;
-      payload = group_journalled g group now (step.Volume x.vsn slot group.conf.format group.conf.size);
+      payload = group_journal_payload g group now (step.Volume x.vsn slot group.conf.format group.conf.size);
     }
 
 -- the last relabel wrote this label
@@ -226,10 +226,10 @@ reserve g group b len n =
     let chunk = group.conf.chunk in
     let have = rooms (spaces (usage_of group) group.tables.volumes) in
     let pieces = planned_pieces (usage_of group) group.tables.volumes len in
-    record (asking_group g (answer.Reserved n chunk pieces)) {
+    record (group_healing_plan g (answer.Reserved n chunk pieces)) {
       own = (is_none (map.get group.tables.bitfiles b.0), guard.CopyWanted) ∷ [];
       making = is_new group.next_reservation n ∷ [];
-      refusals = (nat_lt have len, refused (error.NoRoom (narrowed have) len)) ∷ [];
+      refusals = (nat_lt have len, group_refusal (error.NoRoom (as_word have) len)) ∷ [];
       opens = opening.Reservation g n (record { bfid = b; len = len; chunk = chunk; pieces = pieces });
     }
 
@@ -259,20 +259,16 @@ summed_chunks chunk (p ∷ ps) sums =
 abbrev pub commit : GroupId → Group → ℕ → List (List ℕ) → ℕ → Option Reserved → Plan
 commit g group n sums now None = no_token g
 commit g group n sums now (Some r) =
-    record (asking_group g answer.Committed) {
+    record (group_healing_plan g answer.Committed) {
       ends = ending.Reservation g n r.bfid;
-      payload = group_journalled g group now (step.Commit r.bfid r.len (summed_chunks r.chunk r.pieces sums));
+      payload = group_journal_payload g group now (step.Commit r.bfid r.len (summed_chunks r.chunk r.pieces sums));
     }
 
--- a zone's header has 32 bits for how many chunks the zone has
-abbrev pub zone_chunks_limit : ℕ
-zone_chunks_limit = 2 ^ 32
-
--- the piece is a part of these bytes, and can be one zone
+-- the piece is a part of these bytes, and can be one zone, whose header has 32 bits for how many chunks it has
 abbrev pub is_part : List ℕ → Reserved → Piece → Bool
 is_part bytes r p =
     nat_eq (length bytes) r.len && nat_lt 0 p.len && nat_le (p.offset + p.len) (length bytes)
-    && nat_lt 0 r.chunk && nat_lt (chunk_count r.chunk p.len) zone_chunks_limit
+    && nat_lt 0 r.chunk && nat_lt (chunk_count r.chunk p.len) count_limit
 
 -- these bytes of a bitfile
 abbrev pub part_of : List ℕ → ℕ → ℕ → List ℕ
@@ -333,23 +329,23 @@ commit_of contents n sums r copy =
     }
 
 abbrev pub commit_needs : Numbered (List ℕ) → Numbered CopyState → ℕ → List (List ℕ) → Option Reserved → Needs
-commit_needs contents copies n sums None = nothing
+commit_needs contents copies n sums None = no_needs
 commit_needs contents copies n sums (Some r) = commit_of contents n sums r (map.get copies r.bfid.0)
 
 abbrev pub abort : GroupId → ℕ → Option Reserved → Plan
 abort g n None = no_token g
-abort g n (Some r) = record (grouped g answer.Aborted) { ends = ending.Reservation g n r.bfid }
+abort g n (Some r) = record (group_quiet_plan g answer.Aborted) { ends = ending.Reservation g n r.bfid }
 
 abbrev pub abort_needs : Numbered CopyState → ℕ → Option Reserved → Needs
-abort_needs copies n None = nothing
+abort_needs copies n None = no_needs
 abort_needs copies n (Some r) =
     of_tokens ((is_unmounted n (reservation_in (map.get copies r.bfid.0)), guard.PiecesUnmounted) ∷ [])
 
 -- ---- deleting a copy
 
 abbrev pub delete_of : GroupId → Group → Bfid → ℕ → Bool → Plan
-delete_of g group b now there = record (asking_group g (answer.Deleted there)) {
-  payload = cond there (group_journalled g group now (step.Delete b)) None;
+delete_of g group b now there = record (group_healing_plan g (answer.Deleted there)) {
+  payload = cond there (group_journal_payload g group now (step.Delete b)) None;
   mark = mark.Deleted g b;
 }
 
@@ -362,7 +358,7 @@ delete_needs h b = record { token = []; lasting = (is_some (map.get h.taken b.0)
 -- ---- merging
 
 abbrev pub merge_list : GroupId → Group → Plan
-merge_list g group = asking_group g (answer.SparseVolumes (tables.merge_list (usage_of group) group.conf.sparse group.tables))
+merge_list g group = group_healing_plan g (answer.SparseVolumes (tables.merge_list (usage_of group) group.conf.sparse group.tables))
 
 -- a chunk goes to this volume, into a zone of its own at the tip
 abbrev pub move_to : GroupId → Group → LiveChunk → Space → ℕ → ℕ → ℕ → Plan
@@ -379,7 +375,7 @@ move_to g group l s job from to =
       source = from;
       target = to;
     } in
-    record (asking_group g (answer.MoveBegun job l.bfid l.total l.chunk moved from source_epoch to target_epoch s.version)) {
+    record (group_healing_plan g (answer.MoveBegun job l.bfid l.total l.chunk moved from source_epoch to target_epoch s.version)) {
       making = is_new group.next_move job ∷ is_new group.next_mount from ∷ is_new (from + 1) to ∷ [];
       opens = opening.Move g job moving source_epoch target_epoch;
     }
@@ -388,18 +384,18 @@ move_to g group l s job from to =
 abbrev pub no_destination : Group → List Vsn → LiveChunk → Bool × Answer
 no_destination group merged l =
     let have = greatest_room (target_spaces (usage_of group) merged group.tables.volumes) in
-    (true, refused (error.NoRoom (narrowed have) l.chunk.len))
+    (true, group_refusal (error.NoRoom (as_word have) l.chunk.len))
 
 abbrev pub merge_to : GroupId → Group → List Vsn → LiveChunk → ℕ → ℕ → ℕ → Option Space → Plan
 merge_to g group merged l job from to None =
-    record (asking_group g answer.Failed) {
+    record (group_healing_plan g answer.Failed) {
       refusals = mount_refusal 1 group l.chunk.vsn.0 ∷ no_destination group merged l ∷ [];
     }
 merge_to g group merged l job from to (Some s) =
     record (move_to g group l s job from to) { refusals = mount_refusal 1 group l.chunk.vsn.0 ∷ [] }
 
 abbrev pub merge_first : GroupId → Group → List Vsn → ℕ → ℕ → ℕ → Option LiveChunk → Plan
-merge_first g group merged job from to None = asking_group g answer.SourceEmpty
+merge_first g group merged job from to None = group_healing_plan g answer.SourceEmpty
 merge_first g group merged job from to (Some l) =
     merge_to g group merged l job from to (destination_in (usage_of group) merged group.tables.volumes l.chunk.len)
 
@@ -438,10 +434,10 @@ abbrev pub move_done : GroupId → Group → ℕ → Option (List ℕ) → ℕ �
 move_done g group job sum now None = no_token g
 move_done g group job sum now (Some x) =
     let found = chunk_in x.from.offset (map.get group.tables.bitfiles x.bfid.0) in
-    record (asking_group g answer.Moved) {
-      refusals = (not (is_chunk x.from found), refused (error.Moved found)) ∷ [];
+    record (group_healing_plan g answer.Moved) {
+      refusals = (not (is_chunk x.from found), group_refusal (error.Moved found)) ∷ [];
       ends = ending.Move g job x.source x.target;
-      payload = group_journalled g group now (step.Move x.bfid x.from (record x.to { sum = sum }));
+      payload = group_journal_payload g group now (step.Move x.bfid x.from (record x.to { sum = sum }));
     }
 
 -- the zone that these bytes of the move are to become under an epoch, and the sum that its chunk then has
@@ -462,22 +458,22 @@ was_moved x sum (Some s) (Some t) = moved_by s.read
     moved_by (Some bytes) = is_moved t.epoch x sum bytes t.written
 
 abbrev pub move_done_needs : Numbered MountState → Option (List ℕ) → Option Moving → Needs
-move_done_needs mounts sum None = nothing
+move_done_needs mounts sum None = no_needs
 move_done_needs mounts sum (Some x) =
     of_tokens ((was_moved x sum (map.get mounts x.source) (map.get mounts x.target), guard.ChunkMoved) ∷ [])
 
 abbrev pub drop_move : GroupId → ℕ → Option Moving → Plan
 drop_move g job None = no_token g
-drop_move g job (Some x) = record (grouped g answer.MoveDropped) { ends = ending.Move g job x.source x.target }
+drop_move g job (Some x) = record (group_quiet_plan g answer.MoveDropped) { ends = ending.Move g job x.source x.target }
 
 -- ---- freeing and using again
 
 abbrev pub free_of : GroupId → Group → Vsn → ℕ → Bool → Plan
 free_of g group vsn now freed =
-    record (asking_group g (answer.Freed freed)) { payload = cond freed (group_journalled g group now (step.Free vsn)) None }
+    record (group_healing_plan g (answer.Freed freed)) { payload = cond freed (group_journal_payload g group now (step.Free vsn)) None }
 
 abbrev pub free : GroupId → Group → Vsn → ℕ → Option VolumeRow → Plan
-free g group vsn now None = record (asking_group g answer.Failed) { own = (false, guard.VolumeKnown) ∷ [] }
+free g group vsn now None = record (group_healing_plan g answer.Failed) { own = (false, guard.VolumeKnown) ∷ [] }
 free g group vsn now (Some v) = free_of g group vsn now (is_freeable_in (usage_of group) group.tables vsn.0 v)
 
 -- the volume gets the next epoch, and the group's format
@@ -485,14 +481,14 @@ abbrev pub reuse_of : GroupId → Group → ℕ → ℕ → Vsn → Plan
 reuse_of g group m now vsn =
     let epoch = epoch_of group vsn.0 in
     let format = group.conf.format in
-    record (asking_group g (answer.ReuseBegun m vsn epoch (epoch + 1) format)) {
+    record (group_healing_plan g (answer.ReuseBegun m vsn epoch (epoch + 1) format)) {
       making = is_new group.next_mount m ∷ [];
       refusals = mount_refusal 0 group vsn.0 ∷ [];
       opens = opening.Reuse g m epoch (record { vsn = vsn; next_epoch = epoch + 1; version = format }) now;
     }
 
 abbrev pub reuse_first : GroupId → Group → ℕ → ℕ → List Vsn → Plan
-reuse_first g group m now [] = asking_group g answer.NoneReusable
+reuse_first g group m now [] = group_healing_plan g answer.NoneReusable
 reuse_first g group m now (vsn ∷ vsns) = reuse_of g group m now vsn
 
 abbrev pub reuse_next : GroupId → Group → ℕ → ℕ → Plan
@@ -503,9 +499,9 @@ reuse_next g group m now =
 abbrev pub reuse : GroupId → Group → ℕ → ℕ → Option Reusing → Plan
 reuse g group m now None = no_token g
 reuse g group m now (Some x) =
-    record (asking_group g answer.Reused) {
+    record (group_healing_plan g answer.Reused) {
       ends = ending.Mount g m;
-      payload = group_journalled g group now (step.Reuse x.vsn x.next_epoch x.version);
+      payload = group_journal_payload g group now (step.Reuse x.vsn x.next_epoch x.version);
     }
 
 -- the label that the mount is for was written last, and the clock reads no less than as the reuse began
@@ -543,10 +539,10 @@ rows_of group = record {
 }
 
 abbrev pub all_rows : GroupId → Group → Plan
-all_rows g group = asking_group g (answer.Rows (rows_of group))
+all_rows g group = group_healing_plan g (answer.Rows (rows_of group))
 
 abbrev pub volumes : GroupId → Group → Plan
-volumes g group = asking_group g (answer.Volumes (all_volumes group))
+volumes g group = group_healing_plan g (answer.Volumes (all_volumes group))
 
 -- ---- all calls
 
@@ -573,22 +569,22 @@ group_plan g group call.Volumes = volumes g group
 
 -- the worker is the one that calls, if anything is known of it
 abbrev pub group_needs : Option Worker → History → GroupId → Side → GroupCall → Needs
-group_needs w h g s call.Missing = nothing
-group_needs w h g s (call.MountNew vsn m) = nothing
+group_needs w h g s call.Missing = no_needs
+group_needs w h g s (call.MountNew vsn m) = no_needs
 group_needs w h g s (call.AddVolume m now) = add_volume_needs (map.get s.mounts m)
 group_needs w h g s (call.Reserve b len n) = reserve_needs (map.get s.copies b.0) len
-group_needs w h g s (call.MountPiece n k m) = nothing
+group_needs w h g s (call.MountPiece n k m) = no_needs
 group_needs w h g s (call.MountChunk b offset m) = mount_chunk_needs w g b
 group_needs w h g s (call.Unmount m) = unmount_needs (map.get s.mounts m)
 group_needs w h g s (call.Commit n sums now) = commit_needs h.contents s.copies n sums (map.get s.group.reservations n)
 group_needs w h g s (call.Abort n) = abort_needs s.copies n (map.get s.group.reservations n)
 group_needs w h g s (call.Delete b now) = delete_needs h b
-group_needs w h g s call.MergeList = nothing
-group_needs w h g s (call.MergeNext merged source job from to) = nothing
+group_needs w h g s call.MergeList = no_needs
+group_needs w h g s (call.MergeNext merged source job from to) = no_needs
 group_needs w h g s (call.MoveDone job sum now) = move_done_needs s.mounts sum (map.get s.group.moves job)
-group_needs w h g s (call.DropMove job) = nothing
-group_needs w h g s (call.Free vsn now) = nothing
-group_needs w h g s (call.ReuseNext m now) = nothing
+group_needs w h g s (call.DropMove job) = no_needs
+group_needs w h g s (call.Free vsn now) = no_needs
+group_needs w h g s (call.ReuseNext m now) = no_needs
 group_needs w h g s (call.Reuse m now) = reuse_needs now.0 (map.get s.mounts m)
-group_needs w h g s call.Rows = nothing
-group_needs w h g s call.Volumes = nothing
+group_needs w h g s call.Rows = no_needs
+group_needs w h g s call.Volumes = no_needs

@@ -23,7 +23,7 @@ use Rattle.dm_model.specs.declared.state.Moving.{Moving}
 use Rattle.dm_model.specs.declared.state.Reserved.{Reserved}
 use Rattle.dm_model.specs.declared.state.Reusing.{Reusing}
 use Rattle.dm_rules.specs.Label.{first_zone}
-use Rattle.dm_rules.specs.Numbers.{narrowed}
+use Rattle.dm_rules.specs.Numbers.{as_word}
 use Rattle.dm_rules.specs.Plan.{zone_end}
 use Rattle.dm_rules.specs.Zone.{weight}
 
@@ -85,7 +85,7 @@ group_doubting (Some (payload.Group g r)) x = group_with_doubt (Some r) x
 -- each piece moves the tip of its volume behind its zone
 abbrev pub tips_behind : ℕ → List Piece → Named ℕ → Named ℕ
 tips_behind chunk [] tips = tips
-tips_behind chunk (p ∷ ps) tips = tips_behind chunk ps (map.insert tips p.vsn.0 (narrowed (zone_end chunk p)))
+tips_behind chunk (p ∷ ps) tips = tips_behind chunk ps (map.insert tips p.vsn.0 (as_word (zone_end chunk p)))
 
 abbrev pub with_reserved : ℕ → Reserved → Group → Group
 with_reserved n r x = record x {
@@ -102,7 +102,7 @@ with_mounted m vsn epoch x = record x {
 
 -- the tip of the target moves behind the zone, which has the one chunk
 abbrev pub tip_behind_moved : Moving → Named ℕ → Named ℕ
-tip_behind_moved x tips = map.insert tips x.to.vsn.0 (narrowed (x.to.zone + weight x.version x.to.len))
+tip_behind_moved x tips = map.insert tips x.to.vsn.0 (as_word (x.to.zone + weight x.version x.to.len))
 
 abbrev pub with_moving : ℕ → Moving → Group → Group
 with_moving job x group =

@@ -27,7 +27,7 @@ use Rattle.dm_model.specs.declared.state.Origin.TheVariants as origin
 use Rattle.dm_model.specs.declared.state.Reserved.{Reserved}
 use Rattle.dm_model.specs.declared.state.Side.{Side}
 use Rattle.dm_model.specs.GroupCalls.{part_of}
-use Rattle.dm_model.specs.Step.{Entered, state_after, step}
+use Rattle.dm_model.specs.Step.{RunEntry, state_after, step}
 use Rattle.dm_rules.specs.Plan.{chunks_of}
 use Rattle.dm_rules.specs.Version.{has_sum}
 use Rattle.sha2.specs.Sha256.{sha256}
@@ -94,20 +94,20 @@ hashed_by_volume c None = []
 hashed_by_volume c (Some s) = hashed_on_volume s c
 
 -- by an event, in the state before it. A call that failed hashed what it was given, and got no bytes
-abbrev pub hashed_by : Joint → Event → List (List ℕ)
-hashed_by j (event.Call (call.Daemon c)) = []
-hashed_by j (event.Call (call.Group g c)) = hashed_by_group j c (map.get j.sides g.0)
-hashed_by j (event.Call (call.Volume g vsn c)) = hashed_by_volume c (map.get j.sides g.0)
-hashed_by j (event.Fault (call.Daemon c) healed checkpointed) = []
-hashed_by j (event.Fault (call.Group g c) healed checkpointed) = hashed_by_group j c (map.get j.sides g.0)
-hashed_by j (event.Fault (call.Volume g vsn c) healed checkpointed) = []
-hashed_by j (event.Landed c) = []
-hashed_by j (event.Look c) = []
-hashed_by j event.Stop = []
+abbrev pub hashed_by_event : Joint → Event → List (List ℕ)
+hashed_by_event j (event.Call (call.Daemon c)) = []
+hashed_by_event j (event.Call (call.Group g c)) = hashed_by_group j c (map.get j.sides g.0)
+hashed_by_event j (event.Call (call.Volume g vsn c)) = hashed_by_volume c (map.get j.sides g.0)
+hashed_by_event j (event.Fault (call.Daemon c) healed checkpointed) = []
+hashed_by_event j (event.Fault (call.Group g c) healed checkpointed) = hashed_by_group j c (map.get j.sides g.0)
+hashed_by_event j (event.Fault (call.Volume g vsn c) healed checkpointed) = []
+hashed_by_event j (event.Landed c) = []
+hashed_by_event j (event.Look c) = []
+hashed_by_event j event.Stop = []
 
-abbrev pub hashed : Joint → List Entered → List (List ℕ)
-hashed j [] = []
-hashed j (e ∷ es) = hashed_by j e.event ++ hashed (state_after j (step j e.worker e.event)) es
+abbrev pub hashed_in_run : Joint → List RunEntry → List (List ℕ)
+hashed_in_run j [] = []
+hashed_in_run j (e ∷ es) = hashed_by_event j e.event ++ hashed_in_run (state_after j (step j e.worker e.event)) es
 
 -- ---- as the run begins
 
@@ -132,5 +132,5 @@ SumsTellApart lists =
     (x y : List ℕ) → Contains lists x → Contains lists y → length x ≡ length y → sha256 x ≡ sha256 y → x ≡ y
 
 -- what a law supposes of a run
-abbrev pub NoCollision : Joint → List Entered → Type 0
-NoCollision j entries = SumsTellApart (parts_stored j ++ hashed j entries)
+abbrev pub NoCollision : Joint → List RunEntry → Type 0
+NoCollision j entries = SumsTellApart (parts_stored j ++ hashed_in_run j entries)

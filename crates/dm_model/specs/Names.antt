@@ -41,7 +41,7 @@ use Rattle.dm_model.specs.declared.state.Origin.TheVariants as origin
 use Rattle.dm_model.specs.declared.state.Reserved.{Reserved}
 use Rattle.dm_model.specs.declared.state.Side.{Side as SideState}
 use Rattle.dm_model.specs.Files.{asked_by, groups_of}
-use Rattle.dm_model.specs.Step.{Entered}
+use Rattle.dm_model.specs.Step.{RunEntry}
 use Rattle.dm_model.specs.VolumeCalls.{mount_in}
 
 -- ---- names
@@ -286,8 +286,8 @@ abbrev pub is_about : Entry → Name → Bool
 is_about e x = same_name (home_of e.event) x || list_any (same_name x) e.names
 
 -- an entry as one of a run
-abbrev pub entered : Entry → Entered
-entered e = record { worker = e.worker; event = e.event; answer = e.answer }
+abbrev pub run_entry_of : Entry → RunEntry
+run_entry_of e = record { worker = e.worker; event = e.event; answer = e.answer }
 
 -- ---- the names that are there from the beginning
 

@@ -35,8 +35,8 @@ pub record Plan : Type 0 where
   pub answer : Answer
 
 -- the plan of a call that uses no device, may always be made, is never refused and changes nothing
-abbrev pub quiet : Component → Answer → Plan
-quiet component answer = record {
+abbrev pub quiet_plan : Component → Answer → Plan
+quiet_plan component answer = record {
   component = component;
   device = false;
   heals = false;
@@ -51,8 +51,8 @@ quiet component answer = record {
 }
 
 -- the same of a call that heals, and so uses a device
-abbrev pub asking : Component → Answer → Plan
-asking component answer = record (quiet component answer) { device = true; heals = true }
+abbrev pub healing_plan : Component → Answer → Plan
+healing_plan component answer = record (quiet_plan component answer) { device = true; heals = true }
 
 -- What a call needs of others: of its worker, and of the mounts, the reservation and the copy that it is about
 -- (`token`); and of what elsewhere stays true once it is true (`lasting`). With that, what is legal in the part of the
@@ -62,8 +62,8 @@ pub record Needs : Type 0 where
   pub lasting : List Guarded
 
 -- a call that needs nothing of others
-abbrev pub nothing : Needs
-nothing = record { token = []; lasting = [] }
+abbrev pub no_needs : Needs
+no_needs = record { token = []; lasting = [] }
 
 -- the guards that a call needs whether it is accepted, is refused or fails
 abbrev pub guards_always : Plan → Needs → List Guarded
@@ -99,8 +99,8 @@ answer_of None answer = answer
 answer_of (Some refusal) answer = refusal
 
 -- the plan with the tests of its refusals made
-abbrev pub prepared : Plan → Prepared
-prepared p = record {
+abbrev pub prepared_plan : Plan → Prepared
+prepared_plan p = record {
   component = p.component;
   heals = p.heals;
   ends = p.ends;

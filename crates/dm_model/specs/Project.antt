@@ -19,13 +19,13 @@ use Rattle.dm_model.specs.declared.plan.Payload.{Payload}
 use Rattle.dm_model.specs.declared.plan.Payload.TheVariants as payload
 use Rattle.dm_model.specs.declared.state.Joint.{Joint}
 use Rattle.dm_model.specs.DaemonCalls.{daemon_plan}
-use Rattle.dm_model.specs.Plan.{prepared}
+use Rattle.dm_model.specs.Plan.{prepared_plan}
 use Rattle.dm_model.specs.Step as machine
-use Rattle.dm_model.specs.Step.{Entered, state_after}
+use Rattle.dm_model.specs.Step.{RunEntry, state_after}
 use Rattle.dm_plain.specs.declared.step.PlainStep.{PlainStep}
 use Rattle.dm_plain.specs.declared.step.PlainStep.TheVariants as plain
 use Rattle.dm_plain.specs.Namespace.{Namespace}
-use Rattle.dm_plain.specs.Steps.{after}
+use Rattle.dm_plain.specs.Steps.{namespace_after}
 
 -- the plain step of a call, by its arguments
 abbrev pub steps_of_call : DaemonCall → List PlainStep
@@ -44,7 +44,7 @@ steps_of_call (daemon_call.BeginRecall path k) = []
 steps_of_call (daemon_call.EndRecall k bytes now) = []
 steps_of_call (daemon_call.DropRecall k) = []
 steps_of_call (daemon_call.HardDelete now) = []
-steps_of_call (daemon_call.NextDropping after) = []
+steps_of_call (daemon_call.NextDropping namespace_after) = []
 steps_of_call (daemon_call.Dropped b now) = []
 steps_of_call (daemon_call.Attributes path) = []
 steps_of_call daemon_call.List = []
@@ -82,7 +82,7 @@ steps_of_doubt (Some r) = steps_of_record r
 
 -- the plain steps of a legal event, in the state before it
 abbrev pub event_steps : Joint → Event → List PlainStep
-event_steps j (event.Call (call.Daemon c)) = steps_at (prepared (daemon_plan j.daemon c)).payload (steps_of_call c)
+event_steps j (event.Call (call.Daemon c)) = steps_at (prepared_plan (daemon_plan j.daemon c)).payload (steps_of_call c)
 event_steps j (event.Call (call.Group g c)) = []
 event_steps j (event.Call (call.Volume g vsn c)) = []
 event_steps j (event.Fault c healed checkpointed) = []
@@ -92,11 +92,11 @@ event_steps j (event.Look c) = []
 event_steps j event.Stop = []
 
 -- those of a run, in order
-abbrev pub projected : Joint → List Entered → List PlainStep
-projected j [] = []
-projected j (e ∷ es) = event_steps j e.event ++ projected (state_after j (machine.step j e.worker e.event)) es
+abbrev pub run_steps : Joint → List RunEntry → List PlainStep
+run_steps j [] = []
+run_steps j (e ∷ es) = event_steps j e.event ++ run_steps (state_after j (machine.step j e.worker e.event)) es
 
 -- the namespace after steps
 abbrev pub plain_run : List PlainStep → Namespace → Namespace
 plain_run [] ns = ns
-plain_run (s ∷ ss) ns = plain_run ss (after s ns)
+plain_run (s ∷ ss) ns = plain_run ss (namespace_after s ns)

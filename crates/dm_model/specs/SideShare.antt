@@ -31,7 +31,7 @@ use Rattle.dm_model.specs.declared.state.Origin.{Origin}
 use Rattle.dm_model.specs.declared.state.Origin.TheVariants as origin
 use Rattle.dm_model.specs.declared.state.Side.{Side}
 use Rattle.dm_model.specs.GroupShare.{group_after_ending, group_after_opening, group_after_payload, group_after_stop, group_doubting, group_without_doubt}
-use Rattle.dm_rules.specs.Known.{Known, forgotten, written}
+use Rattle.dm_rules.specs.Known.{Known, known_without_range, known_with_write}
 use Rattle.dm_rules.specs.Version.{first_version}
 use Rattle.dm_tables.specs.Rows.{adjust}
 
@@ -184,15 +184,15 @@ side_after_payload p s = record s { group = group_after_payload p s.group; image
 abbrev pub side_after_mark : Mark → Side → Side
 side_after_mark mark.Nothing s = s
 side_after_mark (mark.Zone g vsn place zone b index epoch) s = record s {
-  images = adjust s.images vsn.0 (known_by (written place zone));
+  images = adjust s.images vsn.0 (known_by (known_with_write place zone));
   copies = adjust s.copies b.0 (reservation_by (with_written index epoch zone));
 }
 side_after_mark (mark.Target g vsn m place zone) s = record s {
-  images = adjust s.images vsn.0 (known_by (written place zone));
+  images = adjust s.images vsn.0 (known_by (known_with_write place zone));
   mounts = adjust s.mounts m (λ x. record x { written = Some zone });
 }
 side_after_mark (mark.Label g vsn m epoch version text) s = record s {
-  images = adjust s.images vsn.0 (known_by (written 0 text));
+  images = adjust s.images vsn.0 (known_by (known_with_write 0 text));
   mounts = adjust s.mounts m (λ x. record x { labelled = Some (record { epoch = epoch; version = version }) });
 }
 side_after_mark (mark.Read g b offset bytes) s = s
@@ -203,15 +203,15 @@ side_after_mark (mark.Deleted g b) s = s
 abbrev pub side_after_failed_mark : Mark → Side → Side
 side_after_failed_mark mark.Nothing s = s
 side_after_failed_mark (mark.Zone g vsn place zone b index epoch) s = record s {
-  images = adjust s.images vsn.0 (known_by (forgotten place (length zone)));
+  images = adjust s.images vsn.0 (known_by (known_without_range place (length zone)));
   copies = adjust s.copies b.0 (reservation_by (without_written index));
 }
 side_after_failed_mark (mark.Target g vsn m place zone) s = record s {
-  images = adjust s.images vsn.0 (known_by (forgotten place (length zone)));
+  images = adjust s.images vsn.0 (known_by (known_without_range place (length zone)));
   mounts = adjust s.mounts m (λ x. record x { written = None });
 }
 side_after_failed_mark (mark.Label g vsn m epoch version text) s = record s {
-  images = adjust s.images vsn.0 (known_by (forgotten 0 (length text)));
+  images = adjust s.images vsn.0 (known_by (known_without_range 0 (length text)));
   mounts = adjust s.mounts m (λ x. record x { labelled = None });
 }
 side_after_failed_mark (mark.Read g b offset bytes) s = s

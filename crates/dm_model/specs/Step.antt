@@ -25,9 +25,9 @@ use Rattle.dm_model.specs.declared.state.Side.{Side}
 use Rattle.dm_model.specs.declared.state.Worker.{Worker}
 use Rattle.dm_model.specs.DaemonCalls.{daemon_plan, daemon_needs}
 use Rattle.dm_model.specs.DaemonShare.{daemon_after_stop}
-use Rattle.dm_model.specs.Effects.{after_ending, after_failed_mark, after_healing, after_mark, after_opening, after_payload, doubting}
+use Rattle.dm_model.specs.Effects.{after_ending, after_failed_mark, after_healing, after_mark, after_opening, after_payload, joint_with_doubt}
 use Rattle.dm_model.specs.GroupCalls.{group_plan, group_needs, no_group}
-use Rattle.dm_model.specs.Plan.{Plan, Needs, illegal_call, illegal_fault, nothing, prepared}
+use Rattle.dm_model.specs.Plan.{Plan, Needs, illegal_call, illegal_fault, no_needs, prepared_plan}
 use Rattle.dm_model.specs.SideShare.{side_after_stop}
 use Rattle.dm_model.specs.VolumeCalls.{mount_in, volume_plan, volume_needs}
 use Rattle.dm_tables.specs.Rows.{map_values}
@@ -45,7 +45,7 @@ side_plan g c None = no_group g
 side_plan g c (Some s) = group_plan g s.group c
 
 abbrev pub side_needs : Option Worker → History → GroupId → GroupCall → Option Side → Needs
-side_needs w h g c None = nothing
+side_needs w h g c None = no_needs
 side_needs w h g c (Some s) = group_needs w h g s c
 
 abbrev pub volume_plan_in : GroupId → Vsn → VolumeCall → Option Side → Plan
@@ -53,7 +53,7 @@ volume_plan_in g vsn c None = no_group g
 volume_plan_in g vsn c (Some s) = volume_plan g vsn (map.get s.images vsn.0) (map.get s.mounts (mount_in c)) c
 
 abbrev pub volume_needs_in : Vsn → VolumeCall → Option Side → Needs
-volume_needs_in vsn c None = nothing
+volume_needs_in vsn c None = no_needs
 volume_needs_in vsn c (Some s) = volume_needs vsn (map.get s.mounts (mount_in c)) c
 
 abbrev pub plan_of : Joint → Call → Plan
@@ -78,17 +78,17 @@ after_call w p j =
 -- the state after a call that failed: what it spends in every answer goes, of what it would have written nothing is
 -- known, and its step is in doubt, if it had come past its heal and its checkpoint; else an older doubt stays
 abbrev pub after_fault : ℕ → Prepared → Bool → Joint → Joint
-after_fault w p far j = doubting (cond far p.payload None) (after_failed_mark p.mark (after_ending w p.ends j))
+after_fault w p far j = joint_with_doubt (cond far p.payload None) (after_failed_mark p.mark (after_ending w p.ends j))
 
 abbrev pub outcome_of : Option Guard → Joint → Answer → Outcome
 outcome_of None after answer = Stepped after answer
 outcome_of (Some guard) after answer = Illegal guard
 
-abbrev pub called : Joint → ℕ → Plan → Needs → Outcome
-called j w p n = outcome_of (illegal_call p n) (after_call w (prepared p) j) (prepared p).answer
+abbrev pub call_outcome : Joint → ℕ → Plan → Needs → Outcome
+call_outcome j w p n = outcome_of (illegal_call p n) (after_call w (prepared_plan p) j) (prepared_plan p).answer
 
-abbrev pub faulted : Joint → ℕ → Bool → Plan → Needs → Outcome
-faulted j w far p n = outcome_of (illegal_fault p n) (after_fault w (prepared p) far j) answer.Failed
+abbrev pub fault_outcome : Joint → ℕ → Bool → Plan → Needs → Outcome
+fault_outcome j w far p n = outcome_of (illegal_fault p n) (after_fault w (prepared_plan p) far j) answer.Failed
 
 -- ---- steps in doubt that landed
 
@@ -103,28 +103,28 @@ daemon_doubt j = option_map (λ r. payload.Daemon r) j.daemon.doubt
 abbrev pub after_landing : Component → Payload → Joint → Joint
 after_landing c p j = after_payload (Some p) (after_healing true c j)
 
-abbrev pub landed_doubt : Joint → Component → Option Payload → Outcome
-landed_doubt j c None = Illegal guard.InDoubt
-landed_doubt j c (Some p) = Stepped (after_landing c p j) answer.Landed
+abbrev pub doubt_outcome : Joint → Component → Option Payload → Outcome
+doubt_outcome j c None = Illegal guard.InDoubt
+doubt_outcome j c (Some p) = Stepped (after_landing c p j) answer.Landed
 
-abbrev pub landed_in : Joint → GroupId → Option Side → Outcome
-landed_in j g None = Illegal guard.Configured
-landed_in j g (Some s) = landed_doubt j (component.Group g) (group_doubt g s)
+abbrev pub landing_outcome_in : Joint → GroupId → Option Side → Outcome
+landing_outcome_in j g None = Illegal guard.Configured
+landing_outcome_in j g (Some s) = doubt_outcome j (component.Group g) (group_doubt g s)
 
-abbrev pub landed : Joint → Component → Outcome
-landed j component.Daemon = landed_doubt j component.Daemon (daemon_doubt j)
-landed j (component.Group g) = landed_in j g (map.get j.sides g.0)
+abbrev pub landing_outcome : Joint → Component → Outcome
+landing_outcome j component.Daemon = doubt_outcome j component.Daemon (daemon_doubt j)
+landing_outcome j (component.Group g) = landing_outcome_in j g (map.get j.sides g.0)
 
 -- ---- looks and stops
 
-abbrev pub looked_in : Joint → Option Side → Outcome
-looked_in j None = Illegal guard.Configured
-looked_in j (Some s) = Stepped j answer.Looked
+abbrev pub look_outcome_in : Joint → Option Side → Outcome
+look_outcome_in j None = Illegal guard.Configured
+look_outcome_in j (Some s) = Stepped j answer.Looked
 
 -- a look changes nothing, and leaves a step in doubt
-abbrev pub looked : Joint → Component → Outcome
-looked j component.Daemon = Stepped j answer.Looked
-looked j (component.Group g) = looked_in j (map.get j.sides g.0)
+abbrev pub look_outcome : Joint → Component → Outcome
+look_outcome j component.Daemon = Stepped j answer.Looked
+look_outcome j (component.Group g) = look_outcome_in j (map.get j.sides g.0)
 
 -- the end of the program: all that is not durable goes, and steps in doubt with it; one that landed did so before. What was
 -- done stays done
@@ -139,20 +139,20 @@ after_stop j = record {
 -- ---- events and runs
 
 abbrev pub step : Joint → ℕ → Event → Outcome
-step j w (event.Call c) = called j w (plan_of j c) (needs_of j w c)
-step j w (event.Fault c healed checkpointed) = faulted j w (healed && checkpointed) (plan_of j c) (needs_of j w c)
-step j w (event.Landed c) = landed j c
-step j w (event.Look c) = looked j c
+step j w (event.Call c) = call_outcome j w (plan_of j c) (needs_of j w c)
+step j w (event.Fault c healed checkpointed) = fault_outcome j w (healed && checkpointed) (plan_of j c) (needs_of j w c)
+step j w (event.Landed c) = landing_outcome j c
+step j w (event.Look c) = look_outcome j c
 step j w event.Stop = Stepped (after_stop j) answer.Stopped
 
 -- an entry of a run: its worker, its event and the answer
-pub record Entered : Type 0 where
+pub record RunEntry : Type 0 where
   pub worker : ℕ
   pub event : Event
   pub answer : Answer
 
 -- the entries are a legal run from one state to another: each event is legal, and each answer is the machine's
-abbrev pub Run : Joint → List Entered → Joint → Type 0
+abbrev pub Run : Joint → List RunEntry → Joint → Type 0
 Run j [] k = j ≡ k
 Run j (e ∷ es) k = (mid : Joint) × (step j e.worker e.event ≡ Stepped mid e.answer) × Run mid es k
 

@@ -21,15 +21,15 @@ use Rattle.dm_model.specs.declared.state.Origin.{Origin}
 use Rattle.dm_model.specs.declared.state.Origin.TheVariants as origin
 use Rattle.dm_model.specs.GroupCalls.{no_group, of_tokens}
 use Rattle.dm_model.specs.Guards.{Guarded}
-use Rattle.dm_model.specs.Plan.{Plan, Needs, quiet}
-use Rattle.dm_rules.specs.Known.{agrees}
+use Rattle.dm_model.specs.Plan.{Plan, Needs, quiet_plan}
+use Rattle.dm_rules.specs.Known.{agrees_with_known}
 use Rattle.dm_rules.specs.Label.{label, first_zone}
 use Rattle.dm_rules.specs.Zone.{weight, zone_length}
 use Rattle.sha2.specs.Sha256.{sha256}
 
 -- a call on a volume: it uses a device, and has nothing to settle first
 abbrev pub on_volume : GroupId → Answer → Plan
-on_volume g a = record (quiet (component.Group g) a) { device = true }
+on_volume g a = record (quiet_plan (component.Group g) a) { device = true }
 
 -- ---- write_zone
 
@@ -99,7 +99,7 @@ read_chunk g image m place n bytes x = record (on_volume g (answer.ChunkRead byt
   own = (is_range image.size place n, guard.RangeRead) ∷ [];
   making =
       (nat_eq (length bytes) n, guard.RangeRead)
-      ∷ (not x.bound || agrees image.known place bytes, guard.RangeRead)
+      ∷ (not x.bound || agrees_with_known image.known place bytes, guard.RangeRead)
       ∷ [];
   mark = read_mark g m place n bytes x.origin;
 }

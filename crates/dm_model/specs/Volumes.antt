@@ -16,7 +16,7 @@ use Rattle.dm_model.specs.declared.state.Group.{Group}
 use Rattle.dm_model.specs.declared.state.Mounted.{Mounted}
 use Rattle.dm_model.specs.declared.state.Reserved.{Reserved}
 use Rattle.dm_model.specs.declared.state.Reusing.{Reusing}
-use Rattle.dm_rules.specs.Numbers.{narrowed}
+use Rattle.dm_rules.specs.Numbers.{as_word}
 use Rattle.dm_tables.specs.Rows.{any}
 
 -- ---- what is open on a volume
@@ -52,7 +52,7 @@ volume_row group vsn v = record {
   vsn = record { 0 = vsn };
   state = state_in (usage_of group) vsn v;
   tip = tip_in group.tips vsn v;
-  live = narrowed (live_on group.tables.bitfiles vsn);
+  live = as_word (live_on group.tables.bitfiles vsn);
 }
 
 -- the rows of all volumes, by serial number

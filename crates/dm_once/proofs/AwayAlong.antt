@@ -45,12 +45,12 @@ use Rattle.dm_model.specs.Effects.{after_ending, after_healing, after_mark, afte
 use Rattle.dm_model.specs.GroupCalls.{abort, add_volume, commit, delete_of, drop_move, free, free_of, group_plan, merge_first, merge_to, mount_chunk}
 use Rattle.dm_model.specs.GroupCalls.{mount_chunk_of, mount_piece, mount_piece_of, move_done, piece_at, reuse, reuse_first, unmount, group_time}
 use Rattle.dm_model.specs.Volumes.{usage_of}
-use Rattle.dm_model.specs.Plan.{Plan, Needs, guards_of, if_accepted, illegal_call, illegal_fault, prepared, refusal_of}
+use Rattle.dm_model.specs.Plan.{Plan, Needs, guards_of, if_accepted, illegal_call, illegal_fault, prepared_plan, refusal_of}
 use Rattle.dm_model.specs.VolumeCalls.{mount_in, volume_plan}
-use Rattle.dm_model.specs.Step.{Stepped, after_call, after_fault, after_landing, after_stop, landed_doubt, landed_in, needs_of, outcome_of, plan_of, side_plan, step, volume_plan_in}
+use Rattle.dm_model.specs.Step.{Stepped, after_call, after_fault, after_landing, after_stop, doubt_outcome, landing_outcome_in, needs_of, outcome_of, plan_of, side_plan, step, volume_plan_in}
 use Rattle.dm_model.proofs.PlansOf.{group_plan-of, prepared-of}
 use Rattle.dm_model.proofs.Shares.{PaysOf}
-use Rattle.dm_invariant.specs.Kept.{Kept}
+use Rattle.dm_invariant.specs.Kept.{InvariantHolds}
 use Rattle.dm_landing.proofs.CallsLanded.{PayloadLands, daemon_call_lands}
 use Rattle.dm_effects.proofs.BeginningCalls.{always_hold}
 use Rattle.dm_shown.proofs.EventsShown.{all_hold, landed_is, look_is, outcome_is, payload_is}
@@ -236,7 +236,7 @@ module _ (g0 b : ℕ) where
 
   -- ---- an event
 
-  module _ (j : Joint) (w : ℕ) (kept : Kept j) (away : IsAwayIn j g0 b) where
+  module _ (j : Joint) (w : ℕ) (kept : InvariantHolds j) (away : IsAwayIn j g0 b) where
     of_daemon : (i l : Joint) (o : Option Payload) → PayloadLands i o → PaysAway l o
     of_daemon i l None lands = tt
     of_daemon i l (Some (payload.Daemon r)) lands = tt
@@ -246,38 +246,38 @@ module _ (g0 b : ℕ) where
     daemon_called c k x is =
         let p = daemon_plan j.daemon c in
         let n = daemon_needs j.sides (map.get j.workers w) j.history j.daemon c in
-        let o = outcome_is (illegal_call p n) (after_call w (prepared p) j) k (prepared p).answer x is in
+        let o = outcome_is (illegal_call p n) (after_call w (prepared_plan p) j) k (prepared_plan p).answer x is in
         let legal = always_hold p n (refusal_of p) (all_hold (guards_of (refusal_of p) p n) o.0) in
         let lands = daemon_call_lands j kept w c legal in
         subst (λ i. IsAwayIn i g0 b) o.1
-        (called_away w (prepared p) j
-        (of_daemon (after_ending w p.ends j) (after_healing p.heals p.component (after_ending w p.ends j)) (prepared p).payload lands) away)
+        (called_away w (prepared_plan p) j
+        (of_daemon (after_ending w p.ends j) (after_healing p.heals p.component (after_ending w p.ends j)) (prepared_plan p).payload lands) away)
 
     side_called : (g : GroupId) (c : GroupCall) (o : Option Side) → (g.0 ≡ g0 → (s : Side) → o ≡ Some s → ReservesOther b s c)
-        → IsAwayIn (after_call w (prepared (side_plan g c o)) j) g0 b
-    side_called g c None other = called_away w (prepared (side_plan g c None)) j tt away
+        → IsAwayIn (after_call w (prepared_plan (side_plan g c o)) j) g0 b
+    side_called g c None other = called_away w (prepared_plan (side_plan g c None)) j tt away
     side_called g c (Some s) other =
         let p = group_plan g s.group c in
-        called_away w (prepared p) j
-        (other_pays g (after_healing p.heals p.component (after_ending w p.ends j)) (prepared p).payload
+        called_away w (prepared_plan p) j
+        (other_pays g (after_healing p.heals p.component (after_ending w p.ends j)) (prepared_plan p).payload
         (prepared-of g p (group_plan-of g s.group c)).pays
         (other_if g.0 (refusal_of p) p.payload (plan_other g s c (λ same. other same s refl)))) away
 
     image_other : (g : GroupId) (vsn : Vsn) (image : Option Image) (x : Option MountState) (c : VolumeCall) (l : Joint)
-        → PaysAway l (prepared (volume_plan g vsn image x c)).payload
+        → PaysAway l (prepared_plan (volume_plan g vsn image x c)).payload
     image_other g vsn None x c l = tt
     image_other g vsn (Some i) None c l = tt
     image_other g vsn (Some i) (Some y) (volume_call.WriteZone m place zone) l = tt
     image_other g vsn (Some i) (Some y) (volume_call.ReadChunk m place n bytes) l = tt
     image_other g vsn (Some i) (Some y) (volume_call.Relabel m epoch version) l = tt
 
-    volume_other : (g : GroupId) (vsn : Vsn) (c : VolumeCall) (o : Option Side) (l : Joint) → PaysAway l (prepared (volume_plan_in g vsn c o)).payload
+    volume_other : (g : GroupId) (vsn : Vsn) (c : VolumeCall) (o : Option Side) (l : Joint) → PaysAway l (prepared_plan (volume_plan_in g vsn c o)).payload
     volume_other g vsn c None l = tt
     volume_other g vsn c (Some s) l = image_other g vsn (map.get s.images vsn.0) (map.get s.mounts (mount_in c)) c l
 
-    came : (p : Plan) (n : Needs) (k : Joint) (x : Answer) → outcome_of (illegal_call p n) (after_call w (prepared p) j) (prepared p).answer ≡ Stepped k x
-        → IsAwayIn (after_call w (prepared p) j) g0 b → IsAwayIn k g0 b
-    came p n k x is after = subst (λ i. IsAwayIn i g0 b) (outcome_is (illegal_call p n) (after_call w (prepared p) j) k (prepared p).answer x is).1 after
+    came : (p : Plan) (n : Needs) (k : Joint) (x : Answer) → outcome_of (illegal_call p n) (after_call w (prepared_plan p) j) (prepared_plan p).answer ≡ Stepped k x
+        → IsAwayIn (after_call w (prepared_plan p) j) g0 b → IsAwayIn k g0 b
+    came p n k x is after = subst (λ i. IsAwayIn i g0 b) (outcome_is (illegal_call p n) (after_call w (prepared_plan p) j) k (prepared_plan p).answer x is).1 after
 
     faulted : (c : Call) (healed checkpointed : Bool) (k : Joint) (x : Answer) → step j w (event.Fault c healed checkpointed) ≡ Stepped k x
         → IsAwayIn k g0 b
@@ -285,11 +285,11 @@ module _ (g0 b : ℕ) where
         let p = plan_of j c in
         let n = needs_of j w c in
         let far = healed && checkpointed in
-        let o = outcome_is (illegal_fault p n) (after_fault w (prepared p) far j) k _ x is in
-        subst (λ i. IsAwayIn i g0 b) o.1 (faulted_away w (prepared p) far j away)
+        let o = outcome_is (illegal_fault p n) (after_fault w (prepared_plan p) far j) k _ x is in
+        subst (λ i. IsAwayIn i g0 b) o.1 (faulted_away w (prepared_plan p) far j away)
 
     daemon_landed : (k : Joint) (x : Answer) (o : Option DaemonRecord)
-        → landed_doubt j component.Daemon (option_map (λ r. payload.Daemon r) o) ≡ Stepped k x → IsAwayIn k g0 b
+        → doubt_outcome j component.Daemon (option_map (λ r. payload.Daemon r) o) ≡ Stepped k x → IsAwayIn k g0 b
     daemon_landed k x None is = absurd (cc)
     daemon_landed k x (Some r) is =
         let l = landed_is j k component.Daemon (Some (payload.Daemon r)) x is in
@@ -299,7 +299,7 @@ module _ (g0 b : ℕ) where
 
     group_landed : (g : GroupId) (s : Side) (o : Option GroupRecord) → s.group.doubt ≡ o
         → (g.0 ≡ g0 → (r : GroupRecord) → s.group.doubt ≡ Some r → CommitsOther b r.step) → (k : Joint) (x : Answer)
-        → landed_doubt j (component.Group g) (option_map (λ r. payload.Group g r) o) ≡ Stepped k x → IsAwayIn k g0 b
+        → doubt_outcome j (component.Group g) (option_map (λ r. payload.Group g r) o) ≡ Stepped k x → IsAwayIn k g0 b
     group_landed g s None doubt other k x is = absurd (cc)
     group_landed g s (Some r) doubt other k x is =
         let l = landed_is j k (component.Group g) (Some (payload.Group g r)) x is in
@@ -310,7 +310,7 @@ module _ (g0 b : ℕ) where
 
     side_landed : (g : GroupId) (o : Option Side)
         → (g.0 ≡ g0 → (s : Side) (r : GroupRecord) → o ≡ Some s → s.group.doubt ≡ Some r → CommitsOther b r.step)
-        → (k : Joint) (x : Answer) → landed_in j g o ≡ Stepped k x → IsAwayIn k g0 b
+        → (k : Joint) (x : Answer) → landing_outcome_in j g o ≡ Stepped k x → IsAwayIn k g0 b
     side_landed g None other k x is = absurd (cc)
     side_landed g (Some s) other k x is = group_landed g s s.group.doubt refl (λ same r doubt. other same s r refl doubt) k x is
 
@@ -322,7 +322,7 @@ module _ (g0 b : ℕ) where
     event_away (event.Call (call.Volume g vsn c)) k x other is =
         let p = plan_of j (call.Volume g vsn c) in
         came p (needs_of j w (call.Volume g vsn c)) k x is
-        (called_away w (prepared p) j
+        (called_away w (prepared_plan p) j
         (volume_other g vsn c (map.get j.sides g.0) (after_healing p.heals p.component (after_ending w p.ends j))) away)
     event_away (event.Fault c healed checkpointed) k x other is = faulted c healed checkpointed k x is
     event_away (event.Landed component.Daemon) k x other is = daemon_landed k x j.daemon.doubt is

@@ -26,12 +26,12 @@ use Rattle.dm_model.specs.declared.state.Side.{Side}
 use Rattle.dm_model.specs.DaemonCalls.{daemon_needs, daemon_plan}
 use Rattle.dm_model.specs.Effects.{after_ending, contents_with}
 use Rattle.dm_model.specs.Files.{File, file_named}
-use Rattle.dm_model.specs.Plan.{Plan, Needs, guards_of, illegal_call, illegal_fault, prepared, refusal_of}
-use Rattle.dm_model.specs.Step.{Entered, Run, Stepped, after_call, after_fault, after_landing, after_stop, landed_doubt, landed_in, needs_of, outcome_of, plan_of, step}
+use Rattle.dm_model.specs.Plan.{Plan, Needs, guards_of, illegal_call, illegal_fault, prepared_plan, refusal_of}
+use Rattle.dm_model.specs.Step.{RunEntry, Run, Stepped, after_call, after_fault, after_landing, after_stop, doubt_outcome, landing_outcome_in, needs_of, outcome_of, plan_of, step}
 use Rattle.dm_model.proofs.Shares.{PaysOf}
 use Rattle.dm_invariant.specs.Doubts.{MayLandIf}
 use Rattle.dm_invariant.specs.Files.{FilesKept}
-use Rattle.dm_invariant.specs.Kept.{Kept}
+use Rattle.dm_invariant.specs.Kept.{InvariantHolds}
 use Rattle.dm_landing.proofs.CallsLanded.{PayloadLands, daemon_call_lands}
 use Rattle.dm_landing.proofs.NamedRows.{next_not_given}
 use Rattle.dm_effects.proofs.BeginningCalls.{always_hold}
@@ -74,7 +74,7 @@ module _ (t : DaemonTables) (contents : Numbered (List ℕ)) (cap now : ℕ) (ke
 record_is : (q r : DaemonRecord) → Some (payload.Daemon q) ≡ Some (payload.Daemon r) → q ≡ r
 record_is q r is = cc
 
-module _ (j : Joint) (w : ℕ) (kept : Kept j) (d : ℕ) (bytes : List ℕ) (is : map.get j.history.contents d ≡ Some bytes) where
+module _ (j : Joint) (w : ℕ) (kept : InvariantHolds j) (d : ℕ) (bytes : List ℕ) (is : map.get j.history.contents d ≡ Some bytes) where
   -- the bitfile has this content
   abbrev Has : Shown → Type 0
   Has files = map.get files.1 d ≡ Some bytes
@@ -95,20 +95,20 @@ module _ (j : Joint) (w : ℕ) (kept : Kept j) (d : ℕ) (bytes : List ℕ) (is 
   called_has c k x at =
       let p = daemon_plan j.daemon c in
       let n = daemon_needs j.sides (map.get j.workers w) j.history j.daemon c in
-      let o = outcome_is (illegal_call p n) (after_call w (prepared p) j) k (prepared p).answer x at in
+      let o = outcome_is (illegal_call p n) (after_call w (prepared_plan p) j) k (prepared_plan p).answer x at in
       let legal = always_hold p n (refusal_of p) (all_hold (guards_of (refusal_of p) p n) o.0) in
       let lands = daemon_call_lands j kept w c legal in
       subst (λ i. Has (files_of i)) o.1
-      (subst Has (sym (called_files w j (prepared p)))
-      (paid_has (prepared p).payload
-      (lands_follows (after_ending w p.ends j) (prepared p).payload (still_follows w j p.ends) lands)))
+      (subst Has (sym (called_files w j (prepared_plan p)))
+      (paid_has (prepared_plan p).payload
+      (lands_follows (after_ending w p.ends j) (prepared_plan p).payload (still_follows w j p.ends) lands)))
 
-  other_has : (g : GroupId) (p : Plan) (n : Needs) (k : Joint) (x : Answer) → PaysOf g (prepared p).payload
-      → outcome_of (illegal_call p n) (after_call w (prepared p) j) (prepared p).answer ≡ Stepped k x → Has (files_of k)
+  other_has : (g : GroupId) (p : Plan) (n : Needs) (k : Joint) (x : Answer) → PaysOf g (prepared_plan p).payload
+      → outcome_of (illegal_call p n) (after_call w (prepared_plan p) j) (prepared_plan p).answer ≡ Stepped k x → Has (files_of k)
   other_has g p n k x of at =
-      let o = outcome_is (illegal_call p n) (after_call w (prepared p) j) k (prepared p).answer x at in
+      let o = outcome_is (illegal_call p n) (after_call w (prepared_plan p) j) k (prepared_plan p).answer x at in
       subst (λ i. Has (files_of i)) o.1
-      (subst Has (sym (called_files w j (prepared p) ∙ group_paid g (prepared p).payload (files_of j) of)) is)
+      (subst Has (sym (called_files w j (prepared_plan p) ∙ group_paid g (prepared_plan p).payload (files_of j) of)) is)
 
   faulted_has : (c : Call) (healed checkpointed : Bool) (k : Joint) (x : Answer) → step j w (event.Fault c healed checkpointed) ≡ Stepped k x
       → Has (files_of k)
@@ -116,12 +116,12 @@ module _ (j : Joint) (w : ℕ) (kept : Kept j) (d : ℕ) (bytes : List ℕ) (is 
       let p = plan_of j c in
       let n = needs_of j w c in
       let far = healed && checkpointed in
-      let o = outcome_is (illegal_fault p n) (after_fault w (prepared p) far j) k _ x at in
-      subst (λ i. Has (files_of i)) o.1 (subst Has (sym (failed_files w j (prepared p) far)) is)
+      let o = outcome_is (illegal_fault p n) (after_fault w (prepared_plan p) far j) k _ x at in
+      subst (λ i. Has (files_of i)) o.1 (subst Has (sym (failed_files w j (prepared_plan p) far)) is)
 
   landed_has : (k : Joint) (x : Answer) (o : Option DaemonRecord)
       → MayLandIf j.daemon.tables j.daemon.requests j.history.contents j.daemon.cap j.sides o
-      → landed_doubt j component.Daemon (option_map (λ r. payload.Daemon r) o) ≡ Stepped k x → Has (files_of k)
+      → doubt_outcome j component.Daemon (option_map (λ r. payload.Daemon r) o) ≡ Stepped k x → Has (files_of k)
   landed_has k x None may at = absurd (cc)
   landed_has k x (Some r) may at =
       let l = landed_is j k component.Daemon (Some (payload.Daemon r)) x at in
@@ -132,7 +132,7 @@ module _ (j : Joint) (w : ℕ) (kept : Kept j) (d : ℕ) (bytes : List ℕ) (is 
       (paid_has (Some (payload.Daemon r)) (λ q e. subst (λ y. Follows (files_of j) y) (record_is r q e) (follows j r may))))
 
   group_landed_has : (g : GroupId) (o : Option GroupRecord) (k : Joint) (x : Answer)
-      → landed_doubt j (component.Group g) (option_map (λ r. payload.Group g r) o) ≡ Stepped k x → Has (files_of k)
+      → doubt_outcome j (component.Group g) (option_map (λ r. payload.Group g r) o) ≡ Stepped k x → Has (files_of k)
   group_landed_has g None k x at = absurd (cc)
   group_landed_has g (Some r) k x at =
       let l = landed_is j k (component.Group g) (Some (payload.Group g r)) x at in
@@ -140,7 +140,7 @@ module _ (j : Joint) (w : ℕ) (kept : Kept j) (d : ℕ) (bytes : List ℕ) (is 
       ap (λ p. after_landing (component.Group g) p j) (payload_is (payload.Group g r) l.0 l.1) ∙ l.2 in
       subst (λ i. Has (files_of i)) same (subst Has (sym (landed_files j (component.Group g) (payload.Group g r))) is)
 
-  side_landed_has : (g : GroupId) (o : Option Side) (k : Joint) (x : Answer) → landed_in j g o ≡ Stepped k x → Has (files_of k)
+  side_landed_has : (g : GroupId) (o : Option Side) (k : Joint) (x : Answer) → landing_outcome_in j g o ≡ Stepped k x → Has (files_of k)
   side_landed_has g None k x at = absurd (cc)
   side_landed_has g (Some s) k x at = group_landed_has g s.group.doubt k x at
 
@@ -161,7 +161,7 @@ module _ (j : Joint) (w : ℕ) (kept : Kept j) (d : ℕ) (bytes : List ℕ) (is 
 
 -- ---- runs
 
-pub run_stays : (d : ℕ) (bytes : List ℕ) (j : Joint) (entries : List Entered) (k : Joint) → KeptAlong j entries → Run j entries k
+pub run_stays : (d : ℕ) (bytes : List ℕ) (j : Joint) (entries : List RunEntry) (k : Joint) → KeptAlong j entries → Run j entries k
     → map.get j.history.contents d ≡ Some bytes → map.get k.history.contents d ≡ Some bytes
 run_stays d bytes j [] k kept run is = subst (λ (i : Joint). map.get i.history.contents d ≡ Some bytes) run is
 run_stays d bytes j (e ∷ es) k kept run is =

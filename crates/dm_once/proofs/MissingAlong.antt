@@ -53,14 +53,14 @@ use Rattle.dm_model.specs.Effects.{after_ending, after_healing, after_mark, afte
 use Rattle.dm_model.specs.GroupCalls.{abort, add_volume, commit, delete_of, drop_move, free, free_of, group_plan, merge_first, merge_to, mount_chunk}
 use Rattle.dm_model.specs.GroupCalls.{mount_chunk_of, mount_piece, mount_piece_of, move_done, piece_at, reuse, reuse_first, unmount, group_time}
 use Rattle.dm_model.specs.Volumes.{usage_of}
-use Rattle.dm_model.specs.Plan.{Plan, Needs, guards_of, if_accepted, illegal_call, illegal_fault, prepared, refusal_of}
+use Rattle.dm_model.specs.Plan.{Plan, Needs, guards_of, if_accepted, illegal_call, illegal_fault, prepared_plan, refusal_of}
 use Rattle.dm_model.specs.SideShare.{mounts_after_ending, side_after_ending, side_without_doubt}
 use Rattle.dm_model.specs.VolumeCalls.{mount_in, volume_plan}
-use Rattle.dm_model.specs.Step.{Entered, Run, Stepped, after_call, after_fault, after_landing, after_stop, landed_doubt, landed_in, needs_of, outcome_of, plan_of, side_plan, step, volume_plan_in}
+use Rattle.dm_model.specs.Step.{RunEntry, Run, Stepped, after_call, after_fault, after_landing, after_stop, doubt_outcome, landing_outcome_in, needs_of, outcome_of, plan_of, side_plan, step, volume_plan_in}
 use Rattle.dm_model.proofs.PlansOf.{group_plan-of, prepared-of}
 use Rattle.dm_model.proofs.Shares.{IsOfGroup, PaysOf, ending-at, healing-at}
 use Rattle.dm_invariant.specs.Doubts.{GroupMayLandIf, GroupStepNeeds}
-use Rattle.dm_invariant.specs.Kept.{Kept, SideKept, committed_in, deleted_in}
+use Rattle.dm_invariant.specs.Kept.{InvariantHolds, SideKept, committed_in, deleted_in}
 use Rattle.dm_landing.proofs.CallsLanded.{PayloadLands, daemon_call_lands}
 use Rattle.dm_effects.proofs.BeginningCalls.{always_hold}
 use Rattle.dm_shown.specs.Along.{KeptAlong}
@@ -134,7 +134,7 @@ alone : (mounts : Numbered MountState) (m : ℕ) (y : MountState) (vsn : List �
 alone mounts m y vsn apart is of =
     each-left numbers (λ n x. x.vsn.0 ≢ vsn) mounts m (λ n x differ at same. differ (apart n m x y at is (same ∙ sym of)))
 
-module _ (j : Joint) (kept : Kept j) (g : GroupId) (s : Side) (side : map.get j.sides g.0 ≡ Some s) where
+module _ (j : Joint) (kept : InvariantHolds j) (g : GroupId) (s : Side) (side : map.get j.sides g.0 ≡ Some s) where
   abbrev K : SideKept j.daemon.tables.entries j.history.contents j.history.taken j.daemon.requests g.0 (committed_in (map.get j.history.groups g.0))
       (deleted_in (map.get j.history.groups g.0)) s
   K = kept.sides g.0 s side
@@ -276,10 +276,10 @@ module _ (j : Joint) (kept : Kept j) (g : GroupId) (s : Side) (side : map.get j.
 
 -- ---- an event
 
-module _ (j : Joint) (w : ℕ) (kept : Kept j) (listed : ListedRight j) where
+module _ (j : Joint) (w : ℕ) (kept : InvariantHolds j) (listed : ListedRight j) where
   -- the state in which a plan makes something
   abbrev Made : Plan → Joint
-  Made p = let q = prepared p in after_mark w q.mark (after_payload q.payload (after_healing q.heals q.component (after_ending w q.ends j)))
+  Made p = let q = prepared_plan p in after_mark w q.mark (after_payload q.payload (after_healing q.heals q.component (after_ending w q.ends j)))
 
   of_daemon : (i : Joint) (o : Option Payload) → PayloadLands i o
       → (l : Joint) → PaysListed l o
@@ -301,12 +301,12 @@ module _ (j : Joint) (w : ℕ) (kept : Kept j) (listed : ListedRight j) where
   daemon_called c k x is =
       let p = daemon_plan j.daemon c in
       let n = daemon_needs j.sides (map.get j.workers w) j.history j.daemon c in
-      let o = outcome_is (illegal_call p n) (after_call w (prepared p) j) k (prepared p).answer x is in
+      let o = outcome_is (illegal_call p n) (after_call w (prepared_plan p) j) k (prepared_plan p).answer x is in
       let legal = always_hold p n (refusal_of p) (all_hold (guards_of (refusal_of p) p n) o.0) in
       let lands = daemon_call_lands j kept w c legal in
       subst ListedRight o.1
-      (called_listed w (prepared p) j
-      (of_daemon (after_ending w p.ends j) (prepared p).payload lands (after_healing p.heals p.component (after_ending w p.ends j)))
+      (called_listed w (prepared_plan p) j
+      (of_daemon (after_ending w p.ends j) (prepared_plan p).payload lands (after_healing p.heals p.component (after_ending w p.ends j)))
       (request_made (Made p) (refusal_of p) p.opens (daemon_requests j.daemon c).opens) listed)
 
   makes_if : (p : Plan) (o : Option Answer)
@@ -316,19 +316,19 @@ module _ (j : Joint) (w : ℕ) (kept : Kept j) (listed : ListedRight j) where
   makes_if p None makes = makes
   makes_if p (Some a) makes = tt
 
-  side_called : (g : GroupId) (c : GroupCall) (o : Option Side) → map.get j.sides g.0 ≡ o → ListedRight (after_call w (prepared (side_plan g c o)) j)
+  side_called : (g : GroupId) (c : GroupCall) (o : Option Side) → map.get j.sides g.0 ≡ o → ListedRight (after_call w (prepared_plan (side_plan g c o)) j)
   side_called g c None at =
-      called_listed w (prepared (side_plan g c None)) j tt tt listed
+      called_listed w (prepared_plan (side_plan g c None)) j tt tt listed
   side_called g c (Some s) at =
       let p = group_plan g s.group c in
       let of = prepared-of g p (group_plan-of g s.group c) in
-      called_listed w (prepared p) j
-      (pays_spared j kept g s at w (prepared p) (prepared p).payload of of.pays
+      called_listed w (prepared_plan p) j
+      (pays_spared j kept g s at w (prepared_plan p) (prepared_plan p).payload of of.pays
       (spares_if s p.ends (refusal_of p) p.payload (plan_spares j kept g s at c)))
       (makes_if p (refusal_of p) (plan_makes j w g s at c)) listed
 
   image_spares : (g : GroupId) (vsn : Vsn) (image : Option Image) (x : Option MountState) (c : VolumeCall) (l : Joint)
-      → PaysListed l (prepared (volume_plan g vsn image x c)).payload
+      → PaysListed l (prepared_plan (volume_plan g vsn image x c)).payload
   image_spares g vsn None x c l = tt
   image_spares g vsn (Some i) None c l = tt
   image_spares g vsn (Some i) (Some y) (volume_call.WriteZone m place zone) l = tt
@@ -336,35 +336,35 @@ module _ (j : Joint) (w : ℕ) (kept : Kept j) (listed : ListedRight j) where
   image_spares g vsn (Some i) (Some y) (volume_call.Relabel m epoch version) l = tt
 
   image_makes : (g : GroupId) (vsn : Vsn) (image : Option Image) (x : Option MountState) (c : VolumeCall) (l : Joint)
-      → MadeListed l (prepared (volume_plan g vsn image x c)).opens
+      → MadeListed l (prepared_plan (volume_plan g vsn image x c)).opens
   image_makes g vsn None x c l = tt
   image_makes g vsn (Some i) None c l = tt
   image_makes g vsn (Some i) (Some y) (volume_call.WriteZone m place zone) l = tt
   image_makes g vsn (Some i) (Some y) (volume_call.ReadChunk m place n bytes) l = tt
   image_makes g vsn (Some i) (Some y) (volume_call.Relabel m epoch version) l = tt
 
-  volume_makes : (g : GroupId) (vsn : Vsn) (c : VolumeCall) (o : Option Side) (l : Joint) → MadeListed l (prepared (volume_plan_in g vsn c o)).opens
+  volume_makes : (g : GroupId) (vsn : Vsn) (c : VolumeCall) (o : Option Side) (l : Joint) → MadeListed l (prepared_plan (volume_plan_in g vsn c o)).opens
   volume_makes g vsn c None l = tt
   volume_makes g vsn c (Some s) l = image_makes g vsn (map.get s.images vsn.0) (map.get s.mounts (mount_in c)) c l
 
-  volume_spares : (g : GroupId) (vsn : Vsn) (c : VolumeCall) (o : Option Side) (l : Joint) → PaysListed l (prepared (volume_plan_in g vsn c o)).payload
+  volume_spares : (g : GroupId) (vsn : Vsn) (c : VolumeCall) (o : Option Side) (l : Joint) → PaysListed l (prepared_plan (volume_plan_in g vsn c o)).payload
   volume_spares g vsn c None l = tt
   volume_spares g vsn c (Some s) l = image_spares g vsn (map.get s.images vsn.0) (map.get s.mounts (mount_in c)) c l
 
-  came : (p : Plan) (n : Needs) (k : Joint) (x : Answer) → outcome_of (illegal_call p n) (after_call w (prepared p) j) (prepared p).answer ≡ Stepped k x
-      → ListedRight (after_call w (prepared p) j) → ListedRight k
-  came p n k x is after = subst ListedRight (outcome_is (illegal_call p n) (after_call w (prepared p) j) k (prepared p).answer x is).1 after
+  came : (p : Plan) (n : Needs) (k : Joint) (x : Answer) → outcome_of (illegal_call p n) (after_call w (prepared_plan p) j) (prepared_plan p).answer ≡ Stepped k x
+      → ListedRight (after_call w (prepared_plan p) j) → ListedRight k
+  came p n k x is after = subst ListedRight (outcome_is (illegal_call p n) (after_call w (prepared_plan p) j) k (prepared_plan p).answer x is).1 after
 
   faulted : (c : Call) (healed checkpointed : Bool) (k : Joint) (x : Answer) → step j w (event.Fault c healed checkpointed) ≡ Stepped k x → ListedRight k
   faulted c healed checkpointed k x is =
       let p = plan_of j c in
       let n = needs_of j w c in
       let far = healed && checkpointed in
-      let o = outcome_is (illegal_fault p n) (after_fault w (prepared p) far j) k _ x is in
-      subst ListedRight o.1 (faulted_listed w (prepared p) far j listed)
+      let o = outcome_is (illegal_fault p n) (after_fault w (prepared_plan p) far j) k _ x is in
+      subst ListedRight o.1 (faulted_listed w (prepared_plan p) far j listed)
 
   daemon_landed : (k : Joint) (x : Answer) (o : Option DaemonRecord)
-      → landed_doubt j component.Daemon (option_map (λ r. payload.Daemon r) o) ≡ Stepped k x → ListedRight k
+      → doubt_outcome j component.Daemon (option_map (λ r. payload.Daemon r) o) ≡ Stepped k x → ListedRight k
   daemon_landed k x None is = absurd (cc)
   daemon_landed k x (Some r) is =
       let l = landed_is j k component.Daemon (Some (payload.Daemon r)) x is in
@@ -373,7 +373,7 @@ module _ (j : Joint) (w : ℕ) (kept : Kept j) (listed : ListedRight j) where
       subst ListedRight same (landed_listed component.Daemon (payload.Daemon r) j tt listed)
 
   group_landed : (g : GroupId) (s : Side) → map.get j.sides g.0 ≡ Some s → (o : Option GroupRecord) → s.group.doubt ≡ o → (k : Joint) (x : Answer)
-      → landed_doubt j (component.Group g) (option_map (λ r. payload.Group g r) o) ≡ Stepped k x → ListedRight k
+      → doubt_outcome j (component.Group g) (option_map (λ r. payload.Group g r) o) ≡ Stepped k x → ListedRight k
   group_landed g s side None doubt k x is = absurd (cc)
   group_landed g s side (Some r) doubt k x is =
       let l = landed_is j k (component.Group g) (Some (payload.Group g r)) x is in
@@ -383,7 +383,7 @@ module _ (j : Joint) (w : ℕ) (kept : Kept j) (listed : ListedRight j) where
       (landed_listed (component.Group g) (payload.Group g r) j
       (landed_spares j kept g s side s.group.doubt (kept.sides g.0 s side).doubt r doubt) listed)
 
-  side_landed : (g : GroupId) (o : Option Side) → map.get j.sides g.0 ≡ o → (k : Joint) (x : Answer) → landed_in j g o ≡ Stepped k x → ListedRight k
+  side_landed : (g : GroupId) (o : Option Side) → map.get j.sides g.0 ≡ o → (k : Joint) (x : Answer) → landing_outcome_in j g o ≡ Stepped k x → ListedRight k
   side_landed g None at k x is = absurd (cc)
   side_landed g (Some s) at k x is = group_landed g s at s.group.doubt refl k x is
 
@@ -395,7 +395,7 @@ module _ (j : Joint) (w : ℕ) (kept : Kept j) (listed : ListedRight j) where
   event_listed (event.Call (call.Volume g vsn c)) k x is =
       let p = plan_of j (call.Volume g vsn c) in
       came p (needs_of j w (call.Volume g vsn c)) k x is
-      (called_listed w (prepared p) j
+      (called_listed w (prepared_plan p) j
       (volume_spares g vsn c (map.get j.sides g.0) (after_healing p.heals p.component (after_ending w p.ends j)))
       (volume_makes g vsn c (map.get j.sides g.0) (Made p)) listed)
   event_listed (event.Fault c healed checkpointed) k x is = faulted c healed checkpointed k x is
@@ -413,7 +413,7 @@ pub unmounted_listed : (j : Joint) → EachRow j.sides (λ g s. s.mounts ≡ map
 unmounted_listed j none = λ g s is.
     subst (λ mounts. MountsListed s.group.tables.volumes mounts) (sym (none g s is)) (each-empty nat_cmp _)
 
-pub run_listed : (j : Joint) (entries : List Entered) (k : Joint) → KeptAlong j entries → Run j entries k → ListedRight j → ListedRight k
+pub run_listed : (j : Joint) (entries : List RunEntry) (k : Joint) → KeptAlong j entries → Run j entries k → ListedRight j → ListedRight k
 run_listed j [] k kept run listed = subst ListedRight run listed
 run_listed j (e ∷ es) k kept run listed =
     run_listed run.0 es k (along_rest j run.0 e es kept run.1) run.2 (event_listed j e.worker kept.0 listed e.event run.0 e.answer run.1)

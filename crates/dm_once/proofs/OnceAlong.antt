@@ -44,17 +44,17 @@ use Rattle.dm_model.specs.DaemonCalls.{daemon_needs, daemon_plan}
 use Rattle.dm_model.specs.Effects.{after_ending, after_healing, after_mark, after_payload}
 use Rattle.dm_model.specs.GroupCalls.{group_needs, group_plan}
 use Rattle.dm_model.specs.Guards.{AllHold}
-use Rattle.dm_model.specs.Plan.{Plan, Needs, guards_always, guards_of, guards_of_fault, if_accepted, illegal_call, illegal_fault, prepared, refusal_of}
+use Rattle.dm_model.specs.Plan.{Plan, Needs, guards_always, guards_of, guards_of_fault, if_accepted, illegal_call, illegal_fault, prepared_plan, refusal_of}
 use Rattle.dm_model.specs.SideShare.{side_after_ending, side_without_doubt}
-use Rattle.dm_model.specs.Step.{Entered, Run, Stepped, after_call, after_fault, after_landing, after_stop, landed_doubt, landed_in, needs_of, outcome_of, plan_of}
+use Rattle.dm_model.specs.Step.{RunEntry, Run, Stepped, after_call, after_fault, after_landing, after_stop, doubt_outcome, landing_outcome_in, needs_of, outcome_of, plan_of}
 use Rattle.dm_model.specs.Step.{side_needs, side_plan, step, volume_needs_in, volume_plan_in}
 use Rattle.dm_model.specs.VolumeCalls.{mount_in, volume_needs, volume_plan}
 use Rattle.dm_model.proofs.PlansOf.{group_plan-of, prepared-of, volume_plan-of}
 use Rattle.dm_model.proofs.Shares.{IsOfGroup, MarksOf, PaysOf as IsPaidBy, ending-at, healing-at}
-use Rattle.dm_invariant.specs.Among.{Among}
+use Rattle.dm_invariant.specs.Among.{IsAmong}
 use Rattle.dm_invariant.specs.Doubts.{GroupMayLandIf}
-use Rattle.dm_invariant.specs.Kept.{Kept, deleted_in}
-use Rattle.dm_invariant.specs.Places.{Live, Target, Kept as InHand}
+use Rattle.dm_invariant.specs.Kept.{InvariantHolds, deleted_in}
+use Rattle.dm_invariant.specs.Places.{Live, Target, Reserving as InHand}
 use Rattle.dm_invariant.proofs.Texts.{texts_equal}
 use Rattle.dm_landing.proofs.CallsLanded.{PayloadLands, daemon_call_lands}
 use Rattle.dm_effects.proofs.BeginningCalls.{always_hold, front_holds}
@@ -106,7 +106,7 @@ healed_tables : (s : Side) (heals : Bool) → (side_without_doubt heals s).group
 healed_tables s true = refl
 healed_tables s false = refl
 
-module _ (j : Joint) (w : ℕ) (kept : Kept j) (g0 epoch b : ℕ) (c : Chunk) where
+module _ (j : Joint) (w : ℕ) (kept : InvariantHolds j) (g0 epoch b : ℕ) (c : Chunk) where
   abbrev contents : Numbered (List ℕ)
   contents = j.history.contents
 
@@ -181,13 +181,13 @@ module _ (j : Joint) (w : ℕ) (kept : Kept j) (g0 epoch b : ℕ) (c : Chunk) wh
   daemon_called e k x is all =
       let p = daemon_plan j.daemon e in
       let n = daemon_needs j.sides (map.get j.workers w) j.history j.daemon e in
-      let o = outcome_is (illegal_call p n) (after_call w (prepared p) j) k (prepared p).answer x is in
+      let o = outcome_is (illegal_call p n) (after_call w (prepared_plan p) j) k (prepared_plan p).answer x is in
       let legal = always_hold p n (refusal_of p) (all_hold (guards_of (refusal_of p) p n) o.0) in
       let lands = daemon_call_lands j kept w e legal in
       let only = daemon_requests j.daemon e in
       subst All o.1
-      (called_was (prepared p) (daemon_pays (after_ending w p.ends j) (Healed (prepared p)) (prepared p).payload lands)
-      (no_mark_right (Paid (prepared p)) (refusal_of p) p.mark only.marks) (request_right (Marked (prepared p)) (refusal_of p) p.opens only.opens) all)
+      (called_was (prepared_plan p) (daemon_pays (after_ending w p.ends j) (Healed (prepared_plan p)) (prepared_plan p).payload lands)
+      (no_mark_right (Paid (prepared_plan p)) (refusal_of p) p.mark only.marks) (request_right (Marked (prepared_plan p)) (refusal_of p) p.opens only.opens) all)
 
   -- ---- a group
 
@@ -217,16 +217,16 @@ module _ (j : Joint) (w : ℕ) (kept : Kept j) (g0 epoch b : ℕ) (c : Chunk) wh
     opens_right p None lets = lets.opens
     opens_right p (Some a) lets = tt
 
-    plan_called : (p : Plan) → IsOfGroup g (prepared p) → Lets contents g0 epoch b c j w kept g s side p → AllHold p.own → All j
-        → All (after_call w (prepared p) j)
+    plan_called : (p : Plan) → IsOfGroup g (prepared_plan p) → Lets contents g0 epoch b c j w kept g s side p → AllHold p.own → All j
+        → All (after_call w (prepared_plan p) j)
     plan_called p of lets own all =
-        called_was (prepared p) (pays_right (prepared p) (prepared p).payload of of.pays (pays_if contents g0 epoch b c s (refusal_of p) p.payload (lets.pays own)))
-        (unmarked_if contents g0 epoch b c (Paid (prepared p)) (refusal_of p) p.mark lets.marks) (opens_right p (refusal_of p) lets) all
+        called_was (prepared_plan p) (pays_right (prepared_plan p) (prepared_plan p).payload of of.pays (pays_if contents g0 epoch b c s (refusal_of p) p.payload (lets.pays own)))
+        (unmarked_if contents g0 epoch b c (Paid (prepared_plan p)) (refusal_of p) p.mark lets.marks) (opens_right p (refusal_of p) lets) all
 
   side_called : (g : GroupId) (e : GroupCall) (o : Option Side) → map.get j.sides g.0 ≡ o
       → AllHold (guards_always (side_plan g e o) (side_needs (map.get j.workers w) j.history g e o)) → All j
-      → All (after_call w (prepared (side_plan g e o)) j)
-  side_called g e None at legal all = called_was (prepared (side_plan g e None)) tt tt tt all
+      → All (after_call w (prepared_plan (side_plan g e o)) j)
+  side_called g e None at legal all = called_was (prepared_plan (side_plan g e None)) tt tt tt all
   side_called g e (Some s) at legal all =
       let p = group_plan g s.group e in
       let n = group_needs (map.get j.workers w) j.history g s e in
@@ -234,11 +234,11 @@ module _ (j : Joint) (w : ℕ) (kept : Kept j) (g0 epoch b : ℕ) (c : Chunk) wh
       (front_holds p.own n.token (front_holds (p.own ++ n.token) n.lasting legal)) all
 
   side_faulted : (g : GroupId) (e : GroupCall) (far : Bool) (o : Option Side) → map.get j.sides g.0 ≡ o → All j
-      → All (after_fault w (prepared (side_plan g e o)) far j)
-  side_faulted g e far None at all = faulted_was (prepared (side_plan g e None)) far tt all
+      → All (after_fault w (prepared_plan (side_plan g e o)) far j)
+  side_faulted g e far None at all = faulted_was (prepared_plan (side_plan g e None)) far tt all
   side_faulted g e far (Some s) at all =
       let p = group_plan g s.group e in
-      faulted_was (prepared p) far (unmarked_if contents g0 epoch b c (after_ending w p.ends j) (refusal_of p) p.mark (plan_lets contents g0 epoch b c j w kept g s at e).marks) all
+      faulted_was (prepared_plan p) far (unmarked_if contents g0 epoch b c (after_ending w p.ends j) (refusal_of p) p.mark (plan_lets contents g0 epoch b c j w kept g s at e).marks) all
 
   -- ---- a volume
 
@@ -273,77 +273,77 @@ module _ (j : Joint) (w : ℕ) (kept : Kept j) (g0 epoch b : ℕ) (c : Chunk) wh
 
     volume_called : (image : Option Image) (x : Option MountState) (e : VolumeCall) → map.get s.mounts (mount_in e) ≡ x
         → AllHold (guards_always (volume_plan g vsn image x e) (volume_needs vsn x e)) → All j
-        → All (after_call w (prepared (volume_plan g vsn image x e)) j)
-    volume_called None x e mount legal all = called_was (prepared (volume_plan g vsn None x e)) tt tt tt all
-    volume_called (Some image) None e mount legal all = called_was (prepared (volume_plan g vsn (Some image) None e)) tt tt tt all
+        → All (after_call w (prepared_plan (volume_plan g vsn image x e)) j)
+    volume_called None x e mount legal all = called_was (prepared_plan (volume_plan g vsn None x e)) tt tt tt all
+    volume_called (Some image) None e mount legal all = called_was (prepared_plan (volume_plan g vsn (Some image) None e)) tt tt tt all
     volume_called (Some image) (Some x) (volume_call.WriteZone m place zone) mount legal all =
         let p = volume_plan g vsn (Some image) (Some x) (volume_call.WriteZone m place zone) in
-        called_was (prepared p) tt
+        called_was (prepared_plan p) tt
         (mark_right g s side (after_payload None (after_healing false (component.Group g) (after_ending w ending.Nothing j))) refl p.mark
         (volume_plan-of g vsn (Some image) (Some x) (volume_call.WriteZone m place zone)).marks
         (volume_right image x (volume_call.WriteZone m place zone) mount legal)) tt all
     volume_called (Some image) (Some x) (volume_call.ReadChunk m place n bytes) mount legal all =
         let p = volume_plan g vsn (Some image) (Some x) (volume_call.ReadChunk m place n bytes) in
-        called_was (prepared p) tt
+        called_was (prepared_plan p) tt
         (mark_right g s side (after_payload None (after_healing false (component.Group g) (after_ending w ending.Nothing j))) refl p.mark
         (volume_plan-of g vsn (Some image) (Some x) (volume_call.ReadChunk m place n bytes)).marks
         (volume_right image x (volume_call.ReadChunk m place n bytes) mount legal)) tt all
     volume_called (Some image) (Some x) (volume_call.Relabel m e version) mount legal all =
         let p = volume_plan g vsn (Some image) (Some x) (volume_call.Relabel m e version) in
-        called_was (prepared p) tt
+        called_was (prepared_plan p) tt
         (mark_right g s side (after_payload None (after_healing false (component.Group g) (after_ending w ending.Nothing j))) refl p.mark
         (volume_plan-of g vsn (Some image) (Some x) (volume_call.Relabel m e version)).marks
         (volume_right image x (volume_call.Relabel m e version) mount legal)) tt all
 
     volume_faulted : (image : Option Image) (x : Option MountState) (e : VolumeCall) (far : Bool) → map.get s.mounts (mount_in e) ≡ x
         → AllHold (guards_always (volume_plan g vsn image x e) (volume_needs vsn x e)) → All j
-        → All (after_fault w (prepared (volume_plan g vsn image x e)) far j)
-    volume_faulted None x e far mount legal all = faulted_was (prepared (volume_plan g vsn None x e)) far tt all
-    volume_faulted (Some image) None e far mount legal all = faulted_was (prepared (volume_plan g vsn (Some image) None e)) far tt all
+        → All (after_fault w (prepared_plan (volume_plan g vsn image x e)) far j)
+    volume_faulted None x e far mount legal all = faulted_was (prepared_plan (volume_plan g vsn None x e)) far tt all
+    volume_faulted (Some image) None e far mount legal all = faulted_was (prepared_plan (volume_plan g vsn (Some image) None e)) far tt all
     volume_faulted (Some image) (Some x) (volume_call.WriteZone m place zone) far mount legal all =
         let p = volume_plan g vsn (Some image) (Some x) (volume_call.WriteZone m place zone) in
-        faulted_was (prepared p) far
+        faulted_was (prepared_plan p) far
         (mark_right g s side (after_ending w ending.Nothing j) refl p.mark
         (volume_plan-of g vsn (Some image) (Some x) (volume_call.WriteZone m place zone)).marks
         (volume_right image x (volume_call.WriteZone m place zone) mount legal)) all
     volume_faulted (Some image) (Some x) (volume_call.ReadChunk m place n bytes) far mount legal all =
         let p = volume_plan g vsn (Some image) (Some x) (volume_call.ReadChunk m place n bytes) in
-        faulted_was (prepared p) far
+        faulted_was (prepared_plan p) far
         (mark_right g s side (after_ending w ending.Nothing j) refl p.mark
         (volume_plan-of g vsn (Some image) (Some x) (volume_call.ReadChunk m place n bytes)).marks
         (volume_right image x (volume_call.ReadChunk m place n bytes) mount legal)) all
     volume_faulted (Some image) (Some x) (volume_call.Relabel m e version) far mount legal all =
         let p = volume_plan g vsn (Some image) (Some x) (volume_call.Relabel m e version) in
-        faulted_was (prepared p) far
+        faulted_was (prepared_plan p) far
         (mark_right g s side (after_ending w ending.Nothing j) refl p.mark
         (volume_plan-of g vsn (Some image) (Some x) (volume_call.Relabel m e version)).marks
         (volume_right image x (volume_call.Relabel m e version) mount legal)) all
 
   in_volume_called : (g : GroupId) (vsn : Vsn) (e : VolumeCall) (o : Option Side) → map.get j.sides g.0 ≡ o
       → AllHold (guards_always (volume_plan_in g vsn e o) (volume_needs_in vsn e o)) → All j
-      → All (after_call w (prepared (volume_plan_in g vsn e o)) j)
-  in_volume_called g vsn e None at legal all = called_was (prepared (volume_plan_in g vsn e None)) tt tt tt all
+      → All (after_call w (prepared_plan (volume_plan_in g vsn e o)) j)
+  in_volume_called g vsn e None at legal all = called_was (prepared_plan (volume_plan_in g vsn e None)) tt tt tt all
   in_volume_called g vsn e (Some s) at legal all =
       volume_called g vsn s at (map.get s.images vsn.0) (map.get s.mounts (mount_in e)) e refl legal all
 
   in_volume_faulted : (g : GroupId) (vsn : Vsn) (e : VolumeCall) (far : Bool) (o : Option Side) → map.get j.sides g.0 ≡ o
       → AllHold (guards_always (volume_plan_in g vsn e o) (volume_needs_in vsn e o)) → All j
-      → All (after_fault w (prepared (volume_plan_in g vsn e o)) far j)
-  in_volume_faulted g vsn e far None at legal all = faulted_was (prepared (volume_plan_in g vsn e None)) far tt all
+      → All (after_fault w (prepared_plan (volume_plan_in g vsn e o)) far j)
+  in_volume_faulted g vsn e far None at legal all = faulted_was (prepared_plan (volume_plan_in g vsn e None)) far tt all
   in_volume_faulted g vsn e far (Some s) at legal all =
       volume_faulted g vsn s at (map.get s.images vsn.0) (map.get s.mounts (mount_in e)) e far refl legal all
 
   -- ---- calls that fail
 
-  daemon_faulted : (e : DaemonCall) (far : Bool) → All j → All (after_fault w (prepared (daemon_plan j.daemon e)) far j)
+  daemon_faulted : (e : DaemonCall) (far : Bool) → All j → All (after_fault w (prepared_plan (daemon_plan j.daemon e)) far j)
   daemon_faulted e far all =
       let p = daemon_plan j.daemon e in
-      faulted_was (prepared p) far (no_mark_right (after_ending w p.ends j) (refusal_of p) p.mark (daemon_requests j.daemon e).marks) all
+      faulted_was (prepared_plan p) far (no_mark_right (after_ending w p.ends j) (refusal_of p) p.mark (daemon_requests j.daemon e).marks) all
 
   fault_front : (p : Plan) (n : Needs) → AllHold (guards_of_fault p n) → AllHold (guards_always p n)
   fault_front p n hold = front_holds (guards_always p n) _ hold
 
-  faulted_of : (e : Call) (far : Bool) → AllHold (guards_always (plan_of j e) (needs_of j w e)) → All j → All (after_fault w (prepared (plan_of j e)) far j)
+  faulted_of : (e : Call) (far : Bool) → AllHold (guards_always (plan_of j e) (needs_of j w e)) → All j → All (after_fault w (prepared_plan (plan_of j e)) far j)
   faulted_of (call.Daemon e) far legal all = daemon_faulted e far all
   faulted_of (call.Group g e) far legal all = side_faulted g e far (map.get j.sides g.0) refl all
   faulted_of (call.Volume g vsn e) far legal all = in_volume_faulted g vsn e far (map.get j.sides g.0) refl legal all
@@ -353,7 +353,7 @@ module _ (j : Joint) (w : ℕ) (kept : Kept j) (g0 epoch b : ℕ) (c : Chunk) wh
       let p = plan_of j e in
       let n = needs_of j w e in
       let far = healed && checkpointed in
-      let o = outcome_is (illegal_fault p n) (after_fault w (prepared p) far j) k _ x is in
+      let o = outcome_is (illegal_fault p n) (after_fault w (prepared_plan p) far j) k _ x is in
       subst All o.1 (faulted_of e far (fault_front p n (all_hold (guards_of_fault p n) o.0)) all)
 
   -- ---- steps in doubt that land
@@ -378,7 +378,7 @@ module _ (j : Joint) (w : ℕ) (kept : Kept j) (g0 epoch b : ℕ) (c : Chunk) wh
       (subst (λ (z : GroupRecord). StepMay contents g0 epoch b c s.group.tables z.step) same (may_of s q.step may.follow.step))
 
   daemon_landed : (k : Joint) (x : Answer) (o : Option DaemonRecord)
-      → landed_doubt j component.Daemon (option_map (λ r. payload.Daemon r) o) ≡ Stepped k x → All j → All k
+      → doubt_outcome j component.Daemon (option_map (λ r. payload.Daemon r) o) ≡ Stepped k x → All j → All k
   daemon_landed k x None is all = absurd (cc)
   daemon_landed k x (Some r) is all =
       let l = landed_is j k component.Daemon (Some (payload.Daemon r)) x is in
@@ -387,7 +387,7 @@ module _ (j : Joint) (w : ℕ) (kept : Kept j) (g0 epoch b : ℕ) (c : Chunk) wh
       subst All same (landed_was component.Daemon (payload.Daemon r) tt all)
 
   group_landed : (g : GroupId) (s : Side) → map.get j.sides g.0 ≡ Some s → (o : Option GroupRecord) → s.group.doubt ≡ o → (k : Joint) (x : Answer)
-      → landed_doubt j (component.Group g) (option_map (λ r. payload.Group g r) o) ≡ Stepped k x → All j → All k
+      → doubt_outcome j (component.Group g) (option_map (λ r. payload.Group g r) o) ≡ Stepped k x → All j → All k
   group_landed g s side None doubt k x is all = absurd (cc)
   group_landed g s side (Some r) doubt k x is all =
       let l = landed_is j k (component.Group g) (Some (payload.Group g r)) x is in
@@ -396,16 +396,16 @@ module _ (j : Joint) (w : ℕ) (kept : Kept j) (g0 epoch b : ℕ) (c : Chunk) wh
       subst All same
       (landed_was (component.Group g) (payload.Group g r) (group_pays g s side s.group.doubt (kept.sides g.0 s side).doubt r doubt) all)
 
-  side_landed : (g : GroupId) (o : Option Side) → map.get j.sides g.0 ≡ o → (k : Joint) (x : Answer) → landed_in j g o ≡ Stepped k x → All j → All k
+  side_landed : (g : GroupId) (o : Option Side) → map.get j.sides g.0 ≡ o → (k : Joint) (x : Answer) → landing_outcome_in j g o ≡ Stepped k x → All j → All k
   side_landed g None at k x is all = absurd (cc)
   side_landed g (Some s) at k x is all = group_landed g s at s.group.doubt refl k x is all
 
   -- ---- any event
 
-  came : (p : Plan) (n : Needs) (k : Joint) (x : Answer) → outcome_of (illegal_call p n) (after_call w (prepared p) j) (prepared p).answer ≡ Stepped k x
-      → (AllHold (guards_always p n) → All (after_call w (prepared p) j)) → All k
+  came : (p : Plan) (n : Needs) (k : Joint) (x : Answer) → outcome_of (illegal_call p n) (after_call w (prepared_plan p) j) (prepared_plan p).answer ≡ Stepped k x
+      → (AllHold (guards_always p n) → All (after_call w (prepared_plan p) j)) → All k
   came p n k x is after =
-      let o = outcome_is (illegal_call p n) (after_call w (prepared p) j) k (prepared p).answer x is in
+      let o = outcome_is (illegal_call p n) (after_call w (prepared_plan p) j) k (prepared_plan p).answer x is in
       subst All o.1 (after (always_hold p n (refusal_of p) (all_hold (guards_of (refusal_of p) p n) o.0)))
 
   sides_after : (e : Event) (k : Joint) (x : Answer) → step j w e ≡ Stepped k x → All j → All k
@@ -431,7 +431,7 @@ module _ (j : Joint) (w : ℕ) (kept : Kept j) (g0 epoch b : ℕ) (c : Chunk) wh
 
 -- ---- runs
 
-pub run_was : (g0 epoch b : ℕ) (c : Chunk) (j : Joint) (entries : List Entered) (k : Joint) → KeptAlong j entries → Run j entries k
+pub run_was : (g0 epoch b : ℕ) (c : Chunk) (j : Joint) (entries : List RunEntry) (k : Joint) → KeptAlong j entries → Run j entries k
     → WasLiveIn j g0 epoch b c → WasLiveIn k g0 epoch b c
 run_was g0 epoch b c j [] k kept run was = subst (λ i. WasLiveIn i g0 epoch b c) run was
 run_was g0 epoch b c j (e ∷ es) k kept run was =
@@ -440,8 +440,8 @@ run_was g0 epoch b c j (e ∷ es) k kept run was =
 
 -- ---- a chunk of a bitfile is one
 
-pub live_was : (j : Joint) → Kept j → (g b : ℕ) (s : Side) (row : BitfileRow) (c : Chunk) (v : VolumeRow) → map.get j.sides g ≡ Some s
-    → map.get s.group.tables.bitfiles b ≡ Some row → Among c row.chunks → map.get s.group.tables.volumes c.vsn.0 ≡ Some v
+pub live_was : (j : Joint) → InvariantHolds j → (g b : ℕ) (s : Side) (row : BitfileRow) (c : Chunk) (v : VolumeRow) → map.get j.sides g ≡ Some s
+    → map.get s.group.tables.bitfiles b ≡ Some row → IsAmong c row.chunks → map.get s.group.tables.volumes c.vsn.0 ≡ Some v
     → WasLiveIn j g v.epoch b c
 live_was j kept g b s row c v side is among on = λ h x at same.
     let one : s ≡ x = one_row j.sides g h s x (sym same) side at in

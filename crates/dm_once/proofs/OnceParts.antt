@@ -5,7 +5,7 @@ use Rattle.dm_base.specs.declared.identifier.GroupId.{GroupId}
 use Rattle.dm_base.specs.declared.identifier.Secs.{Secs}
 use Rattle.dm_base.specs.declared.volume.Chunk.{Chunk}
 use Rattle.dm_base.specs.declared.volume.Piece.{Piece}
-use Rattle.dm_rules.specs.Known.{forgotten, known_bytes, written}
+use Rattle.dm_rules.specs.Known.{known_without_range, known_bytes, known_with_write}
 use Rattle.dm_rules.specs.Version.{has_sum}
 use Rattle.dm_tables.specs.Rows.{adjust}
 use Rattle.dm_tables.proofs.Orders.{numbers, paths, same_or}
@@ -32,10 +32,10 @@ use Rattle.dm_model.specs.declared.state.Side.{Side}
 use Rattle.dm_model.specs.SideShare.{images_after_step, images_labelled, images_relabelled, known_by}
 use Rattle.dm_model.specs.SideShare.{side_after_ending, side_after_failed_mark, side_after_mark, side_after_opening, side_after_payload, side_after_stop}
 use Rattle.dm_model.specs.SideShare.{side_doubting, side_without_doubt}
-use Rattle.dm_invariant.specs.Among.{Among}
+use Rattle.dm_invariant.specs.Among.{IsAmong}
 use Rattle.dm_invariant.specs.Assemble.{known_on}
 use Rattle.dm_invariant.specs.OnceLive.{StillThere}
-use Rattle.dm_invariant.specs.Places.{ChunkCovers, HasKept, HasTarget, PieceCovers, TargetCovers}
+use Rattle.dm_invariant.specs.Places.{ChunkCovers, HasReserving, HasTarget, PieceCovers, TargetCovers}
 use Rattle.dm_landing.proofs.VolumeAdded.{labelled_beside}
 use Rattle.dm_landing.proofs.VolumeEndsRaised.{raised_by}
 use Rattle.dm_effects.proofs.ImagesChanged.{KnownBeside, Spares, image_forgotten, image_written, range_beside}
@@ -71,8 +71,8 @@ module _ (contents : Numbered (List ℕ)) (g0 epoch b : ℕ) (c : Chunk) where
   -- what is in hand, where nothing new of it meets the chunk
   with_hands : (volumes : Named VolumeRow) (images : Named Image) (reservations more : Numbered Reserved) (moves further : Numbered Moving)
       → (k : Was volumes images reservations moves)
-      → (k.volume.epoch ≡ epoch → (n offset place : ℕ) → ChunkCovers c c.vsn.0 place → HasKept more n offset c.vsn.0 place
-      → HasKept reservations n offset c.vsn.0 place)
+      → (k.volume.epoch ≡ epoch → (n offset place : ℕ) → ChunkCovers c c.vsn.0 place → HasReserving more n offset c.vsn.0 place
+      → HasReserving reservations n offset c.vsn.0 place)
       → (k.volume.epoch ≡ epoch → (job place : ℕ) → ChunkCovers c c.vsn.0 place → HasTarget further job c.vsn.0 place
       → HasTarget moves job c.vsn.0 place) → Was volumes images more further
   with_hands volumes images reservations more moves further k kept targets = record {
@@ -121,8 +121,8 @@ module _ (contents : Numbered (List ℕ)) (g0 epoch b : ℕ) (c : Chunk) where
   abbrev pub SideWas : ℕ → Side → Type 0
   SideWas g s = g ≡ g0 → Was s.group.tables.volumes s.images s.group.reservations s.group.moves
 
-  kept_fewer : (reservations : Numbered Reserved) (gone n offset : ℕ) (vsn : List ℕ) (place : ℕ) → HasKept (map.remove reservations gone) n offset vsn place
-      → HasKept reservations n offset vsn place
+  kept_fewer : (reservations : Numbered Reserved) (gone n offset : ℕ) (vsn : List ℕ) (place : ℕ) → HasReserving (map.remove reservations gone) n offset vsn place
+      → HasReserving reservations n offset vsn place
   kept_fewer reservations gone n offset vsn place h = record {
     reserved = h.reserved;
     is = (removed numbers reservations gone n h.reserved h.is).1;
@@ -277,11 +277,11 @@ module _ (contents : Numbered (List ℕ)) (g0 epoch b : ℕ) (c : Chunk) where
   pub was_marked : (g : ℕ) (s : Side) (x : Mark) → MarksRight g s x → SideWas g s → SideWas g (side_after_mark x s)
   was_marked g s mark.Nothing right k = k
   was_marked g s (mark.Zone h vsn place zone d index e) right k =
-      was_changed g s (adjust s.images vsn.0 (known_by (written place zone))) vsn.0 place (length zone) (image_written vsn.0 place zone s.images) right k
+      was_changed g s (adjust s.images vsn.0 (known_by (known_with_write place zone))) vsn.0 place (length zone) (image_written vsn.0 place zone s.images) right k
   was_marked g s (mark.Target h vsn m place zone) right k =
-      was_changed g s (adjust s.images vsn.0 (known_by (written place zone))) vsn.0 place (length zone) (image_written vsn.0 place zone s.images) right k
+      was_changed g s (adjust s.images vsn.0 (known_by (known_with_write place zone))) vsn.0 place (length zone) (image_written vsn.0 place zone s.images) right k
   was_marked g s (mark.Label h vsn m e version text) right k =
-      was_changed g s (adjust s.images vsn.0 (known_by (written 0 text))) vsn.0 0 (length text) (image_written vsn.0 0 text s.images) right k
+      was_changed g s (adjust s.images vsn.0 (known_by (known_with_write 0 text))) vsn.0 0 (length text) (image_written vsn.0 0 text s.images) right k
   was_marked g s (mark.Read h d offset bytes) right k = k
   was_marked g s (mark.Source h m bytes) right k = k
   was_marked g s (mark.Deleted h d) right k = k
@@ -289,13 +289,13 @@ module _ (contents : Numbered (List ℕ)) (g0 epoch b : ℕ) (c : Chunk) where
   pub was_failed : (g : ℕ) (s : Side) (x : Mark) → MarksRight g s x → SideWas g s → SideWas g (side_after_failed_mark x s)
   was_failed g s mark.Nothing right k = k
   was_failed g s (mark.Zone h vsn place zone d index e) right k =
-      was_changed g s (adjust s.images vsn.0 (known_by (forgotten place (length zone)))) vsn.0 place (length zone)
+      was_changed g s (adjust s.images vsn.0 (known_by (known_without_range place (length zone)))) vsn.0 place (length zone)
       (image_forgotten vsn.0 place (length zone) s.images) right k
   was_failed g s (mark.Target h vsn m place zone) right k =
-      was_changed g s (adjust s.images vsn.0 (known_by (forgotten place (length zone)))) vsn.0 place (length zone)
+      was_changed g s (adjust s.images vsn.0 (known_by (known_without_range place (length zone)))) vsn.0 place (length zone)
       (image_forgotten vsn.0 place (length zone) s.images) right k
   was_failed g s (mark.Label h vsn m e version text) right k =
-      was_changed g s (adjust s.images vsn.0 (known_by (forgotten 0 (length text)))) vsn.0 0 (length text)
+      was_changed g s (adjust s.images vsn.0 (known_by (known_without_range 0 (length text)))) vsn.0 0 (length text)
       (image_forgotten vsn.0 0 (length text) s.images) right k
   was_failed g s (mark.Read h d offset bytes) right k = k
   was_failed g s (mark.Source h m bytes) right k = k
@@ -310,7 +310,7 @@ module _ (contents : Numbered (List ℕ)) (g0 epoch b : ℕ) (c : Chunk) where
   OpensRight g s (opening.Recall l r recall) = Unit {0}
   OpensRight g s (opening.Reservation h n r) =
       (v : VolumeRow) → map.get s.group.tables.volumes c.vsn.0 ≡ Some v → c.place + c.len ≤ v.end
-      → (p : Piece) → Among p r.pieces → (q : ℕ) → PieceCovers r.chunk p c.vsn.0 q → ChunkCovers c c.vsn.0 q → ⊥
+      → (p : Piece) → IsAmong p r.pieces → (q : ℕ) → PieceCovers r.chunk p c.vsn.0 q → ChunkCovers c c.vsn.0 q → ⊥
   OpensRight g s (opening.Mount h m vsn e made) = Unit {0}
   OpensRight g s (opening.Move h job x source_epoch target_epoch) =
       (v : VolumeRow) → map.get s.group.tables.volumes c.vsn.0 ≡ Some v → c.place + c.len ≤ v.end
@@ -324,7 +324,7 @@ module _ (contents : Numbered (List ℕ)) (g0 epoch b : ℕ) (c : Chunk) where
       with_hands s.group.tables.volumes s.images s.group.reservations (map.insert s.group.reservations n r) s.group.moves s.group.moves k
       (λ at i offset place covers has. elim (inserted numbers s.group.reservations n r i has.reserved has.is) [
         | inl new ↦
-            let among = subst (λ (y : Reserved). Among has.piece y.pieces) new.1 has.among in
+            let among = subst (λ (y : Reserved). IsAmong has.piece y.pieces) new.1 has.among in
             let over = subst (λ (y : Reserved). PieceCovers y.chunk has.piece c.vsn.0 place) new.1 has.covers in
             absurd (right k.volume k.is (k.still at).within has.piece among place over covers)
         | inr was ↦ record { reserved = has.reserved; is = was.1; piece = has.piece; among = has.among; at = has.at; covers = has.covers }

@@ -38,7 +38,7 @@ use Rattle.dm_model.specs.Plan.{Plan, if_accepted}
 use Rattle.dm_model.specs.SideShare.{side_without_doubt}
 use Rattle.dm_model.specs.Volumes.{usage_of}
 use Rattle.dm_model.proofs.Shares.{healing-at}
-use Rattle.dm_invariant.specs.Kept.{Kept, SideKept, committed_in, deleted_in}
+use Rattle.dm_invariant.specs.Kept.{InvariantHolds, SideKept, committed_in, deleted_in}
 use Rattle.dm_invariant.specs.Places.{ChunkCovers}
 use Rattle.dm_group_effects.proofs.PlacesMore.{BeforeTip, beyond_tip, end_before}
 use Rattle.dm_group_effects.proofs.Spaces.{SpaceOf, destination_is}
@@ -102,7 +102,7 @@ module _ (contents : Numbered (List ℕ)) (g0 epoch b : ℕ) (c : Chunk) where
   pays_if s None q pays = pays
   pays_if s (Some a) q pays = tt
 
-  module _ (j : Joint) (w : ℕ) (kept : Kept j) (g : GroupId) (s : Side) (side : map.get j.sides g.0 ≡ Some s) where
+  module _ (j : Joint) (w : ℕ) (kept : InvariantHolds j) (g : GroupId) (s : Side) (side : map.get j.sides g.0 ≡ Some s) where
     abbrev K : SideKept j.daemon.tables.entries j.history.contents j.history.taken j.daemon.requests g.0 (committed_in (map.get j.history.groups g.0))
         (deleted_in (map.get j.history.groups g.0)) s
     K = kept.sides g.0 s side

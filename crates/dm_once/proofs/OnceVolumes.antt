@@ -20,7 +20,7 @@ use Rattle.dm_model.specs.declared.state.Origin.{Origin}
 use Rattle.dm_model.specs.declared.state.Origin.TheVariants as origin
 use Rattle.dm_model.specs.declared.state.Side.{Side}
 use Rattle.dm_model.specs.VolumeCalls.{is_planned_label, is_read_of, is_zone_place, read_mark, zone_mark}
-use Rattle.dm_invariant.specs.Kept.{Kept, SideKept, committed_in, deleted_in}
+use Rattle.dm_invariant.specs.Kept.{InvariantHolds, SideKept, committed_in, deleted_in}
 use Rattle.dm_invariant.specs.Mounts.{OriginKept, PieceMount, TargetMount}
 use Rattle.dm_invariant.specs.OnceLive.{StillThere}
 use Rattle.dm_invariant.specs.Volumes.{ConfFits, IsOfConf}
@@ -48,7 +48,7 @@ six_characters conf vsn fits is =
     let v = passing (λ (v : Vsn). same_text v.0 vsn) conf.volumes is in
     ap length (sym (texts_equal v.0.0 vsn v.2)) ∙ (fits.serials v.0 v.1).six
 
-module _ (contents : Numbered (List ℕ)) (g0 epoch b : ℕ) (c : Chunk) (j : Joint) (kept : Kept j) (g : GroupId) (s : Side)
+module _ (contents : Numbered (List ℕ)) (g0 epoch b : ℕ) (c : Chunk) (j : Joint) (kept : InvariantHolds j) (g : GroupId) (s : Side)
     (side : map.get j.sides g.0 ≡ Some s) (vsn : Vsn) (x : MountState) (m : ℕ) (mount : map.get s.mounts m ≡ Some x) (on : x.vsn.0 ≡ vsn.0) where
   abbrev K : SideKept j.daemon.tables.entries j.history.contents j.history.taken j.daemon.requests g.0 (committed_in (map.get j.history.groups g.0))
       (deleted_in (map.get j.history.groups g.0)) s

@@ -17,7 +17,7 @@ use Rattle.dm_model.specs.declared.plan.Payload.TheVariants as payload
 use Rattle.dm_model.specs.declared.plan.Prepared.{Prepared}
 use Rattle.dm_model.specs.declared.state.Joint.{Joint}
 use Rattle.dm_model.specs.declared.state.Side.{Side}
-use Rattle.dm_model.specs.Effects.{after_ending, after_failed_mark, after_healing, after_mark, after_opening, after_payload, doubting}
+use Rattle.dm_model.specs.Effects.{after_ending, after_failed_mark, after_healing, after_mark, after_opening, after_payload, joint_with_doubt}
 use Rattle.dm_model.specs.Effects.{groups_of_component, groups_of_ending}
 use Rattle.dm_model.specs.SideShare.{side_after_ending, side_after_failed_mark, side_after_mark, side_after_opening, side_after_payload, side_after_stop}
 use Rattle.dm_model.specs.SideShare.{side_doubting, side_without_doubt}
@@ -120,7 +120,7 @@ module _ (P : ℕ → Side → Type 0) (Pays : ℕ → Side → GroupRecord → 
   all_opened w (opening.Move g job x source_epoch target_epoch) j opens all = open_at j g (opening.Move g job x source_epoch target_epoch) opens all
   all_opened w (opening.Reuse g m epoch x reading) j opens all = open_at j g (opening.Reuse g m epoch x reading) opens all
 
-  all_doubted : (j : Joint) (p : Option Payload) → All j → All (doubting p j)
+  all_doubted : (j : Joint) (p : Option Payload) → All j → All (joint_with_doubt p j)
   all_doubted j None all = all
   all_doubted j (Some (payload.Daemon r)) all = all
   all_doubted j (Some (payload.Group g r)) all =

@@ -7,7 +7,7 @@ use Rattle.std.proofs.lemmas.Bool.{cases_lt, eq-eqb, ne_eqb, le-ltb}
 use Rattle.dm_base.specs.declared.volume.Chunk.{Chunk}
 use Rattle.dm_base.specs.declared.volume.VolRow.{VolRow}
 use Rattle.dm_rules.specs.declared.space.Space.{Space}
-use Rattle.dm_rules.specs.Numbers.{narrowed}
+use Rattle.dm_rules.specs.Numbers.{as_word}
 use Rattle.dm_state.specs.declared.group.VolumeRow.{VolumeRow}
 use Rattle.dm_state.specs.declared.group.BitfileRow.{BitfileRow}
 use Rattle.dm_state.specs.Tables.{Named, Numbered}
@@ -35,38 +35,38 @@ pub record Told (group : Group) (out : List VolRow) (left : List (List ℕ × Vo
   pub is : out ++ rows_in group left ≡ all_volumes group
 
 -- ---- narrowed sums
-narrow_add : (live add rest more : ℕ) → more ≡ min (live + add) 18446744073709551615 → narrowed (more + rest) ≡ narrowed (live + (add + rest))
+narrow_add : (live add rest more : ℕ) → more ≡ min (live + add) 18446744073709551615 → as_word (more + rest) ≡ as_word (live + (add + rest))
 narrow_add live add rest more is = omega arith
 
-narrow_narrow : (live add rest small : ℕ) → small ≡ narrowed add → narrowed (live + (small + rest)) ≡ narrowed (live + (add + rest))
+narrow_narrow : (live add rest small : ℕ) → small ≡ as_word add → as_word (live + (small + rest)) ≡ as_word (live + (add + rest))
 narrow_narrow live add rest small is = omega arith
 
-pub live_here : (vsn : List ℕ) (cs rest : List Chunk) (c : Chunk) (live add more whole : ℕ) → cs ≡ c ∷ rest → same_text c.vsn.0 vsn ≡ true → add ≡ c.len → more ≡ min (live + add) 18446744073709551615 → narrowed (live + live_in vsn cs) ≡ whole → narrowed (more + live_in vsn rest) ≡ whole
+pub live_here : (vsn : List ℕ) (cs rest : List Chunk) (c : Chunk) (live add more whole : ℕ) → cs ≡ c ∷ rest → same_text c.vsn.0 vsn ≡ true → add ≡ c.len → more ≡ min (live + add) 18446744073709551615 → as_word (live + live_in vsn cs) ≡ whole → as_word (more + live_in vsn rest) ≡ whole
 live_here vsn cs rest c live add more whole is same is_add is_more so =
     let parts : live_in vsn cs ≡ c.len + live_in vsn rest = ap (live_in vsn) is ∙ ap (λ b. cond b (c.len + live_in vsn rest) (live_in vsn rest)) same in
-    narrow_add live add (live_in vsn rest) more is_more ∙ ap (λ n. narrowed (live + n)) (ap (λ n. n + live_in vsn rest) is_add ∙ sym parts) ∙ so
+    narrow_add live add (live_in vsn rest) more is_more ∙ ap (λ n. as_word (live + n)) (ap (λ n. n + live_in vsn rest) is_add ∙ sym parts) ∙ so
 
-pub live_beside : (vsn : List ℕ) (cs rest : List Chunk) (c : Chunk) (live add more whole : ℕ) → cs ≡ c ∷ rest → same_text c.vsn.0 vsn ≡ false → add ≡ 0 → more ≡ min (live + add) 18446744073709551615 → narrowed (live + live_in vsn cs) ≡ whole → narrowed (more + live_in vsn rest) ≡ whole
+pub live_beside : (vsn : List ℕ) (cs rest : List Chunk) (c : Chunk) (live add more whole : ℕ) → cs ≡ c ∷ rest → same_text c.vsn.0 vsn ≡ false → add ≡ 0 → more ≡ min (live + add) 18446744073709551615 → as_word (live + live_in vsn cs) ≡ whole → as_word (more + live_in vsn rest) ≡ whole
 live_beside vsn cs rest c live add more whole is same is_add is_more so =
     let parts : live_in vsn cs ≡ live_in vsn rest = ap (live_in vsn) is ∙ ap (λ b. cond b (c.len + live_in vsn rest) (live_in vsn rest)) same in
     let none : add + live_in vsn rest ≡ live_in vsn rest = omega arith in
-    narrow_add live add (live_in vsn rest) more is_more ∙ ap (λ n. narrowed (live + n)) (none ∙ sym parts) ∙ so
+    narrow_add live add (live_in vsn rest) more is_more ∙ ap (λ n. as_word (live + n)) (none ∙ sym parts) ∙ so
 
 -- a number of 64 bits is itself
-pub live_end : (live rest whole : ℕ) → live < 18446744073709551616 → rest ≡ 0 → narrowed (live + rest) ≡ whole → live ≡ whole
-live_end live rest whole small none so = (let e : live ≡ narrowed (live + rest) = omega arith in e) ∙ so
+pub live_end : (live rest whole : ℕ) → live < 18446744073709551616 → rest ≡ 0 → as_word (live + rest) ≡ whole → live ≡ whole
+live_end live rest whole small none so = (let e : live ≡ as_word (live + rest) = omega arith in e) ∙ so
 
-pub row_live : (vsn : List ℕ) (left rest : List (ℕ × BitfileRow)) (k : ℕ) (b : BitfileRow) (live add more whole : ℕ) → left ≡ (k, b) ∷ rest → add ≡ narrowed (live_in vsn b.chunks) → more ≡ min (live + add) 18446744073709551615 → narrowed (live + sum_of (λ r. live_in vsn r.chunks) left) ≡ whole → narrowed (more + sum_of (λ r. live_in vsn r.chunks) rest) ≡ whole
+pub row_live : (vsn : List ℕ) (left rest : List (ℕ × BitfileRow)) (k : ℕ) (b : BitfileRow) (live add more whole : ℕ) → left ≡ (k, b) ∷ rest → add ≡ as_word (live_in vsn b.chunks) → more ≡ min (live + add) 18446744073709551615 → as_word (live + sum_of (λ r. live_in vsn r.chunks) left) ≡ whole → as_word (more + sum_of (λ r. live_in vsn r.chunks) rest) ≡ whole
 row_live vsn left rest k b live add more whole is is_add is_more so =
     let others = sum_of (λ (r : BitfileRow). live_in vsn r.chunks) rest in
     let parts : sum_of (λ r. live_in vsn r.chunks) left ≡ live_in vsn b.chunks + others = ap (sum_of (λ r. live_in vsn r.chunks)) is in
-    narrow_add live add others more is_more ∙ narrow_narrow live (live_in vsn b.chunks) others add is_add ∙ ap (λ n. narrowed (live + n)) (sym parts) ∙ so
+    narrow_add live add others more is_more ∙ narrow_narrow live (live_in vsn b.chunks) others add is_add ∙ ap (λ n. as_word (live + n)) (sym parts) ∙ so
 
-pub row_live_begin : (vsn : List ℕ) (left : List (ℕ × BitfileRow)) (bitfiles : Numbered BitfileRow) → left ≡ map.entries bitfiles → narrowed (0 + sum_of (λ r. live_in vsn r.chunks) left) ≡ live_on bitfiles vsn
+pub row_live_begin : (vsn : List ℕ) (left : List (ℕ × BitfileRow)) (bitfiles : Numbered BitfileRow) → left ≡ map.entries bitfiles → as_word (0 + sum_of (λ r. live_in vsn r.chunks) left) ≡ live_on bitfiles vsn
 row_live_begin vsn left bitfiles is =
     let w : BitfileRow → ℕ = λ r. live_in vsn r.chunks in
     let whole : 0 + sum_of w left ≡ total w bitfiles = (let e : 0 + sum_of w left ≡ sum_of w left = omega arith in e) ∙ ap (sum_of w) is ∙ sym (total-entries w bitfiles) in
-    ap narrowed whole
+    ap as_word whole
 
 -- ---- look-ups in lists
 pub chunk_on : (offset : ℕ) (cs rest : List Chunk) (c : Chunk) (whole : Option Chunk) → cs ≡ c ∷ rest → (c.offset ≡ offset → ⊥) → chunk_at offset cs ≡ whole → chunk_at offset rest ≡ whole

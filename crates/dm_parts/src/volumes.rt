@@ -3,7 +3,7 @@
 ghost use Rattle.std.specs.Prelude.{◌≡◌, ◌∷◌, [], IfOk, IfSome, is_some, option_to_list};
 ghost use Rattle.std.specs.FinMap as map;
 ghost use Rattle.std.specs.List.{AllByRecursion};
-ghost use Rattle.dm_rules.specs.Numbers.{narrowed};
+ghost use Rattle.dm_rules.specs.Numbers.{as_word};
 ghost use Rattle.dm_state.specs.Limits.{volumes_limit};
 ghost use Rattle.dm_parts.specs.Laid.{IsOpen};
 ghost use Rattle.dm_parts.specs.Volumes.{all_volumes as volumes_of, chunk_at as chunk_of, epoch_or, free_drives as drives_of, free_slot as slot_of, is_configured as has_volume, is_mounted as has_mounted, least_missing as missing_of, live_in as live_of, live_on as live_of_all, lower_of as lower, of_serial, room_of as room_in, serial_of, space_if, spaces as spaces_of, state_in as state_of, tip_of as tip_in, volume_row as row_of};
@@ -215,7 +215,7 @@ fn live_on(bitfiles: &Numbers<BitfileRow>, vsn: &[u8]) -> u64
 }
 
 fn live_in(chunks: &[Chunk], vsn: &[u8]) -> u64
-    ensures { result ≡ narrowed (live_of vsn.now chunks.now) }
+    ensures { result ≡ as_word (live_of vsn.now chunks.now) }
 {
     let mut live: u64 = 0;
     for chunk in chunks {

@@ -9,9 +9,9 @@ use Rattle.dm_tables.proofs.Orders.{paths}
 use Rattle.dm_tables.proofs.Adjusted.{get-mapped}
 use Rattle.dm_plain.specs.declared.step.PlainStep.{PlainStep}
 use Rattle.dm_plain.specs.declared.step.PlainStep.TheVariants.{Write, Patch, Remove, Dump, Undump, Restore, Age, Time}
-use Rattle.dm_plain.specs.Namespace.{Namespace, Files, Dumped, Dumps, no_files, written, bytes_of, bytes_in, dump_of}
-use Rattle.dm_plain.specs.Patching.{patched}
-use Rattle.dm_plain.specs.Steps.{after, bytes_dumped, copy_of, range_replaced, lowered, restored, with_age, with_dump, without_dump, without_file}
+use Rattle.dm_plain.specs.Namespace.{Namespace, Files, PlainDump, Dumps, no_files, with_file, bytes_of, bytes_in, dump_of}
+use Rattle.dm_plain.specs.Patching.{with_patch}
+use Rattle.dm_plain.specs.Steps.{namespace_after, bytes_dumped, copy_of, range_replaced, with_lower_least, with_restored_file, with_age, with_dump, without_dump, without_file}
 use Rattle.dm_plain.proofs.Entries.{get-insert_same, get-insert_other, get-remove_same, get-remove_other, remove_absent}
 
 -- ---- the beginning
@@ -26,28 +26,28 @@ dump_of-no_files age name = get-empty (slice_cmp nat_cmp) name
 
 -- ---- what a file holds
 
-pub bytes_of-written-same : (path bytes : List ℕ) (ns : Namespace) → bytes_of path (written path bytes ns) ≡ Some bytes
-unfolding bytes_of written
+pub bytes_of-written-same : (path bytes : List ℕ) (ns : Namespace) → bytes_of path (with_file path bytes ns) ≡ Some bytes
+unfolding bytes_of with_file
 bytes_of-written-same path bytes ns = get-insert_same ns.files path bytes
 
-pub bytes_of-written-other : (path other bytes : List ℕ) (ns : Namespace) → other ≢ path → bytes_of other (written path bytes ns) ≡ bytes_of other ns
-unfolding bytes_of written
+pub bytes_of-written-other : (path other bytes : List ℕ) (ns : Namespace) → other ≢ path → bytes_of other (with_file path bytes ns) ≡ bytes_of other ns
+unfolding bytes_of with_file
 bytes_of-written-other path other bytes ns differ = get-insert_other ns.files path other bytes differ
 
-pub bytes_of-range_replaced-same : (path : List ℕ) (offset : ℕ) (bytes : List ℕ) (ns : Namespace) → bytes_of path (range_replaced path offset bytes ns) ≡ option_map (patched offset bytes) (bytes_of path ns)
+pub bytes_of-range_replaced-same : (path : List ℕ) (offset : ℕ) (bytes : List ℕ) (ns : Namespace) → bytes_of path (range_replaced path offset bytes ns) ≡ option_map (with_patch offset bytes) (bytes_of path ns)
 unfolding range_replaced
 bytes_of-range_replaced-same path offset bytes ns =
-    elim (bytes_of path ns) as (λ o. bytes_of path ns ≡ o → bytes_of path (option_map_or (λ old. written path (patched offset bytes old) ns) o ns) ≡ option_map (patched offset bytes) o) [
+    elim (bytes_of path ns) as (λ o. bytes_of path ns ≡ o → bytes_of path (option_map_or (λ old. with_file path (with_patch offset bytes old) ns) o ns) ≡ option_map (with_patch offset bytes) o) [
       | None ↦ λ e. e
-      | Some old ↦ λ e. bytes_of-written-same path (patched offset bytes old) ns
+      | Some old ↦ λ e. bytes_of-written-same path (with_patch offset bytes old) ns
     ] refl
 
 pub bytes_of-range_replaced-other : (path other : List ℕ) (offset : ℕ) (bytes : List ℕ) (ns : Namespace) → other ≢ path → bytes_of other (range_replaced path offset bytes ns) ≡ bytes_of other ns
 unfolding range_replaced
 bytes_of-range_replaced-other path other offset bytes ns differ =
-    elim (bytes_of path ns) as (λ o. bytes_of other (option_map_or (λ old. written path (patched offset bytes old) ns) o ns) ≡ bytes_of other ns) [
+    elim (bytes_of path ns) as (λ o. bytes_of other (option_map_or (λ old. with_file path (with_patch offset bytes old) ns) o ns) ≡ bytes_of other ns) [
       | None ↦ refl
-      | Some old ↦ bytes_of-written-other path other (patched offset bytes old) ns differ
+      | Some old ↦ bytes_of-written-other path other (with_patch offset bytes old) ns differ
     ]
 
 pub bytes_of-without_file-same : (path : List ℕ) (ns : Namespace) → bytes_of path (without_file path ns) ≡ None
@@ -59,15 +59,15 @@ unfolding bytes_of without_file
 bytes_of-without_file-other path other ns differ = get-remove_other ns.files path other differ
 
 -- a restore gives the bytes that the dump has
-pub bytes_of-restored-same : (name path target bytes : List ℕ) (ns : Namespace) → bytes_dumped name path ns ≡ Some bytes → bytes_of target (restored name path target ns) ≡ Some bytes
-unfolding restored
+pub bytes_of-restored-same : (name path target bytes : List ℕ) (ns : Namespace) → bytes_dumped name path ns ≡ Some bytes → bytes_of target (with_restored_file name path target ns) ≡ Some bytes
+unfolding with_restored_file
 bytes_of-restored-same name path target bytes ns there =
-    ap (λ (o : Option (List ℕ)). bytes_of target (option_map_or (λ b. written target b ns) o ns)) there ∙ bytes_of-written-same target bytes ns
+    ap (λ (o : Option (List ℕ)). bytes_of target (option_map_or (λ b. with_file target b ns) o ns)) there ∙ bytes_of-written-same target bytes ns
 
-pub bytes_of-restored-other : (name path target other : List ℕ) (ns : Namespace) → other ≢ target → bytes_of other (restored name path target ns) ≡ bytes_of other ns
-unfolding restored
+pub bytes_of-restored-other : (name path target other : List ℕ) (ns : Namespace) → other ≢ target → bytes_of other (with_restored_file name path target ns) ≡ bytes_of other ns
+unfolding with_restored_file
 bytes_of-restored-other name path target other ns differ =
-    elim (bytes_dumped name path ns) as (λ o. bytes_of other (option_map_or (λ b. written target b ns) o ns) ≡ bytes_of other ns) [
+    elim (bytes_dumped name path ns) as (λ o. bytes_of other (option_map_or (λ b. with_file target b ns) o ns) ≡ bytes_of other ns) [
       | None ↦ refl
       | Some bytes ↦ bytes_of-written-other target other bytes ns differ
     ]
@@ -115,27 +115,27 @@ unfolding with_age
 age-with_age age ns = refl
 
 -- each dump is the one that it was, with its least age lowered
-pub dump_of-with_age : (age : ℕ) (name : List ℕ) (ns : Namespace) → dump_of name (with_age age ns) ≡ option_map (lowered age) (dump_of name ns)
+pub dump_of-with_age : (age : ℕ) (name : List ℕ) (ns : Namespace) → dump_of name (with_age age ns) ≡ option_map (with_lower_least age) (dump_of name ns)
 unfolding dump_of with_age
-dump_of-with_age age name ns = get-mapped paths (λ name. lowered age) ns.dumps name
+dump_of-with_age age name ns = get-mapped paths (λ name. with_lower_least age) ns.dumps name
 
-pub least-lowered : (age : ℕ) (dump : Dumped) → ((lowered age dump).least ≤ age) × ((lowered age dump).least ≤ dump.least) × (((lowered age dump).least ≡ age) ⊎ ((lowered age dump).least ≡ dump.least))
-unfolding lowered
+pub least-lowered : (age : ℕ) (dump : PlainDump) → ((with_lower_least age dump).least ≤ age) × ((with_lower_least age dump).least ≤ dump.least) × (((with_lower_least age dump).least ≡ age) ⊎ ((with_lower_least age dump).least ≡ dump.least))
+unfolding with_lower_least
 least-lowered age dump = (omega arith, omega arith, elim (cases_lt dump.least age) [ inl below ↦ inr (omega arith) | inr above ↦ inl (omega arith) ])
 
-pub made-lowered : (age : ℕ) (dump : Dumped) → (lowered age dump).made ≡ dump.made
-unfolding lowered
+pub made-lowered : (age : ℕ) (dump : PlainDump) → (with_lower_least age dump).made ≡ dump.made
+unfolding with_lower_least
 made-lowered age dump = refl
 
-pub bytes_in-lowered : (age : ℕ) (path : List ℕ) (dump : Dumped) → bytes_in path (lowered age dump) ≡ bytes_in path dump
-unfolding bytes_in lowered
+pub bytes_in-lowered : (age : ℕ) (path : List ℕ) (dump : PlainDump) → bytes_in path (with_lower_least age dump) ≡ bytes_in path dump
+unfolding bytes_in with_lower_least
 bytes_in-lowered age path dump = refl
 
 -- so no file of a dump is another
 pub bytes_dumped-with_age : (age : ℕ) (name path : List ℕ) (ns : Namespace) → bytes_dumped name path (with_age age ns) ≡ bytes_dumped name path ns
 unfolding bytes_dumped
 bytes_dumped-with_age age name path ns =
-    ap (option_and_then (bytes_in path)) (dump_of-with_age age name ns) ∙ elim (dump_of name ns) as (λ o. option_and_then (bytes_in path) (option_map (lowered age) o) ≡ option_and_then (bytes_in path) o) [
+    ap (option_and_then (bytes_in path)) (dump_of-with_age age name ns) ∙ elim (dump_of name ns) as (λ o. option_and_then (bytes_in path) (option_map (with_lower_least age) o) ≡ option_and_then (bytes_in path) o) [
       | None ↦ refl
       | Some dump ↦ bytes_in-lowered age path dump
     ]
@@ -144,7 +144,7 @@ bytes_dumped-with_age age name path ns =
 
 pub range_replaced-absent : (path : List ℕ) (offset : ℕ) (bytes : List ℕ) (ns : Namespace) → bytes_of path ns ≡ None → range_replaced path offset bytes ns ≡ ns
 unfolding range_replaced
-range_replaced-absent path offset bytes ns absent = ap (λ (o : Option (List ℕ)). option_map_or (λ old. written path (patched offset bytes old) ns) o ns) absent
+range_replaced-absent path offset bytes ns absent = ap (λ (o : Option (List ℕ)). option_map_or (λ old. with_file path (with_patch offset bytes old) ns) o ns) absent
 
 pub without_file-absent : (path : List ℕ) (ns : Namespace) → bytes_of path ns ≡ None → without_file path ns ≡ ns
 unfolding bytes_of without_file
@@ -154,9 +154,9 @@ pub without_dump-absent : (name : List ℕ) (ns : Namespace) → dump_of name ns
 unfolding dump_of without_dump
 without_dump-absent name ns absent = ap (λ (dumps : Dumps). let to : Namespace = record ns { dumps = dumps } in to) (remove_absent ns.dumps name absent)
 
-pub restored-absent : (name path target : List ℕ) (ns : Namespace) → bytes_dumped name path ns ≡ None → restored name path target ns ≡ ns
-unfolding restored
-restored-absent name path target ns absent = ap (λ (o : Option (List ℕ)). option_map_or (λ bytes. written target bytes ns) o ns) absent
+pub restored-absent : (name path target : List ℕ) (ns : Namespace) → bytes_dumped name path ns ≡ None → with_restored_file name path target ns ≡ ns
+unfolding with_restored_file
+restored-absent name path target ns absent = ap (λ (o : Option (List ℕ)). option_map_or (λ bytes. with_file target bytes ns) o ns) absent
 
 -- ---- what a step leaves alone
 
@@ -183,8 +183,8 @@ abbrev pub ChangesAge : PlainStep → Type 0
 ChangesAge (Age age) = Unit {0}
 ChangesAge _ = ⊥
 
-written-age : (path bytes : List ℕ) (ns : Namespace) → (written path bytes ns).age ≡ ns.age
-unfolding written
+written-age : (path bytes : List ℕ) (ns : Namespace) → (with_file path bytes ns).age ≡ ns.age
+unfolding with_file
 written-age path bytes ns = refl
 
 age_chosen : (f : List ℕ → Namespace) (o : Option (List ℕ)) (ns : Namespace) → ((b : List ℕ) → (f b).age ≡ ns.age) → (option_map_or f o ns).age ≡ ns.age
@@ -192,8 +192,8 @@ age_chosen f None ns same = refl
 age_chosen f (Some b) ns same = same b
 
 -- a write leaves the dumps and the time
-written-keeps : (path bytes : List ℕ) (ns : Namespace) → ((written path bytes ns).dumps ≡ ns.dumps) × ((written path bytes ns).now ≡ ns.now)
-unfolding written
+written-keeps : (path bytes : List ℕ) (ns : Namespace) → ((with_file path bytes ns).dumps ≡ ns.dumps) × ((with_file path bytes ns).now ≡ ns.now)
+unfolding with_file
 written-keeps path bytes ns = (refl, refl)
 
 -- a choice of two namespaces with the same dumps and the same time
@@ -203,14 +203,14 @@ same_chosen f (Some b) ns same = same b
 
 range_replaced-keeps : (path : List ℕ) (offset : ℕ) (bytes : List ℕ) (ns : Namespace) → ((range_replaced path offset bytes ns).dumps ≡ ns.dumps) × ((range_replaced path offset bytes ns).now ≡ ns.now)
 unfolding range_replaced
-range_replaced-keeps path offset bytes ns = same_chosen (λ old. written path (patched offset bytes old) ns) (bytes_of path ns) ns (λ old. written-keeps path (patched offset bytes old) ns)
+range_replaced-keeps path offset bytes ns = same_chosen (λ old. with_file path (with_patch offset bytes old) ns) (bytes_of path ns) ns (λ old. written-keeps path (with_patch offset bytes old) ns)
 
-restored-keeps : (name path target : List ℕ) (ns : Namespace) → ((restored name path target ns).dumps ≡ ns.dumps) × ((restored name path target ns).now ≡ ns.now)
-unfolding restored
-restored-keeps name path target ns = same_chosen (λ bytes. written target bytes ns) (bytes_dumped name path ns) ns (λ bytes. written-keeps target bytes ns)
+restored-keeps : (name path target : List ℕ) (ns : Namespace) → ((with_restored_file name path target ns).dumps ≡ ns.dumps) × ((with_restored_file name path target ns).now ≡ ns.now)
+unfolding with_restored_file
+restored-keeps name path target ns = same_chosen (λ bytes. with_file target bytes ns) (bytes_dumped name path ns) ns (λ bytes. written-keeps target bytes ns)
 
 -- nothing but `Write`, `Patch`, `Remove` and `Restore` changes files
-pub files-after : (step : PlainStep) (ns : Namespace) → (ChangesFiles step → ⊥) → (after step ns).files ≡ ns.files
+pub files-after : (step : PlainStep) (ns : Namespace) → (ChangesFiles step → ⊥) → (namespace_after step ns).files ≡ ns.files
 unfolding with_dump without_dump with_age
 files-after (Write path bytes) ns still = absurd (still tt)
 files-after (Patch path offset bytes) ns still = absurd (still tt)
@@ -222,7 +222,7 @@ files-after (Age age) ns still = refl
 files-after (Time now) ns still = refl
 
 -- a dump is changed by no other step: not by what is done to the files later
-pub dumps-after : (step : PlainStep) (ns : Namespace) → (ChangesDumps step → ⊥) → (after step ns).dumps ≡ ns.dumps
+pub dumps-after : (step : PlainStep) (ns : Namespace) → (ChangesDumps step → ⊥) → (namespace_after step ns).dumps ≡ ns.dumps
 unfolding without_file
 dumps-after (Write path bytes) ns still = (written-keeps path bytes ns).0
 dumps-after (Patch path offset bytes) ns still = (range_replaced-keeps path offset bytes ns).0
@@ -234,7 +234,7 @@ dumps-after (Age age) ns still = absurd (still tt)
 dumps-after (Time now) ns still = refl
 
 -- nor is the time, but by `Time`
-pub now-after : (step : PlainStep) (ns : Namespace) → (ChangesTime step → ⊥) → (after step ns).now ≡ ns.now
+pub now-after : (step : PlainStep) (ns : Namespace) → (ChangesTime step → ⊥) → (namespace_after step ns).now ≡ ns.now
 unfolding without_file with_dump without_dump with_age
 now-after (Write path bytes) ns still = (written-keeps path bytes ns).1
 now-after (Patch path offset bytes) ns still = (range_replaced-keeps path offset bytes ns).1
@@ -246,21 +246,21 @@ now-after (Age age) ns still = refl
 now-after (Time now) ns still = absurd (still tt)
 
 -- nor is the age, but by `Age`
-pub age-after : (step : PlainStep) (ns : Namespace) → (ChangesAge step → ⊥) → (after step ns).age ≡ ns.age
-unfolding without_file with_dump without_dump range_replaced restored
+pub age-after : (step : PlainStep) (ns : Namespace) → (ChangesAge step → ⊥) → (namespace_after step ns).age ≡ ns.age
+unfolding without_file with_dump without_dump range_replaced with_restored_file
 age-after (Write path bytes) ns still = written-age path bytes ns
-age-after (Patch path offset bytes) ns still = age_chosen (λ old. written path (patched offset bytes old) ns) (bytes_of path ns) ns (λ old. written-age path (patched offset bytes old) ns)
+age-after (Patch path offset bytes) ns still = age_chosen (λ old. with_file path (with_patch offset bytes old) ns) (bytes_of path ns) ns (λ old. written-age path (with_patch offset bytes old) ns)
 age-after (Remove path) ns still = refl
 age-after (Dump name) ns still = refl
 age-after (Undump name) ns still = refl
-age-after (Restore name path target) ns still = age_chosen (λ bytes. written target bytes ns) (bytes_dumped name path ns) ns (λ bytes. written-age target bytes ns)
+age-after (Restore name path target) ns still = age_chosen (λ bytes. with_file target bytes ns) (bytes_dumped name path ns) ns (λ bytes. written-age target bytes ns)
 age-after (Age age) ns still = absurd (still tt)
 age-after (Time now) ns still = refl
 
-pub bytes_of-after : (step : PlainStep) (path : List ℕ) (ns : Namespace) → (ChangesFiles step → ⊥) → bytes_of path (after step ns) ≡ bytes_of path ns
+pub bytes_of-after : (step : PlainStep) (path : List ℕ) (ns : Namespace) → (ChangesFiles step → ⊥) → bytes_of path (namespace_after step ns) ≡ bytes_of path ns
 unfolding bytes_of
 bytes_of-after step path ns still = ap (λ (files : Files). get files path) (files-after step ns still)
 
-pub dump_of-after : (step : PlainStep) (name : List ℕ) (ns : Namespace) → (ChangesDumps step → ⊥) → dump_of name (after step ns) ≡ dump_of name ns
+pub dump_of-after : (step : PlainStep) (name : List ℕ) (ns : Namespace) → (ChangesDumps step → ⊥) → dump_of name (namespace_after step ns) ≡ dump_of name ns
 unfolding dump_of
 dump_of-after step name ns still = ap (λ (dumps : Dumps). get dumps name) (dumps-after step ns still)

@@ -18,19 +18,19 @@ abbrev pub files_in : BTreeMap (List ℕ) (List ℕ) → Files
 files_in table = map.from_entries table.entries
 
 -- a dump: when it was made, the least age in force since then, and the files as they were then
-pub record Dumped : Type 0 where
+pub record PlainDump : Type 0 where
   pub made : ℕ
   pub least : ℕ
   pub files : Files
 
-abbrev pub dumped_code : Coded Dumped
+abbrev pub dumped_code : Coded PlainDump
 dumped_code =
     code_by (ℕ × (ℕ × Files)) (coded× coded_ℕ (coded× coded_ℕ files_code)) (λ d. (d.made, (d.least, d.files)))
     (λ p. record { made = p.0; least = p.1.0; files = p.1.1 }) (λ _. refl)
 
 -- the dumps: what the bytes of a name lead to
 abbrev pub Dumps : Type 0
-Dumps = map.FinMap (slice_cmp nat_cmp) Dumped
+Dumps = map.FinMap (slice_cmp nat_cmp) PlainDump
 
 abbrev pub dumps_code : Coded Dumps
 dumps_code = map.code (coded_list coded_ℕ) dumped_code
@@ -56,13 +56,13 @@ unfoldable pub bytes_of : List ℕ → Namespace → Option (List ℕ)
 bytes_of path ns = map.get ns.files path
 
 -- the dump of a name, if it is there
-unfoldable pub dump_of : List ℕ → Namespace → Option Dumped
+unfoldable pub dump_of : List ℕ → Namespace → Option PlainDump
 dump_of name ns = map.get ns.dumps name
 
 -- what a file of a dump holds, if the dump has it
-unfoldable pub bytes_in : List ℕ → Dumped → Option (List ℕ)
+unfoldable pub bytes_in : List ℕ → PlainDump → Option (List ℕ)
 bytes_in path dump = map.get dump.files path
 
 -- the file holds these bytes, whether it was there or not; each other one stays
-unfoldable pub written : List ℕ → List ℕ → Namespace → Namespace
-written path bytes ns = record ns { files = map.insert ns.files path bytes }
+unfoldable pub with_file : List ℕ → List ℕ → Namespace → Namespace
+with_file path bytes ns = record ns { files = map.insert ns.files path bytes }

@@ -3,7 +3,7 @@
 ghost use Rattle.std.specs.Prelude.{◌≡◌, IfOk};
 ghost use Rattle.std.specs.Option.{option_copied};
 ghost use Rattle.dm_plain.specs.Namespace.{bytes_in, files_in};
-ghost use Rattle.dm_plain.specs.Steps.{lowered};
+ghost use Rattle.dm_plain.specs.Steps.{with_lower_least};
 
 use dm_base::{Bytes, NoMemory, Path, Secs};
 use dm_rows::Edit;
@@ -21,9 +21,9 @@ pub(crate) struct Dump {
 
 impl Model for Dump {
     ghost use Rattle.std.specs.FinMap as map;
-    ghost use Rattle.dm_plain.specs.Namespace.{Dumped, dumped_code};
+    ghost use Rattle.dm_plain.specs.Namespace.{PlainDump, dumped_code};
 
-    ghost Value = { Dumped };
+    ghost Value = { PlainDump };
 
     ghost coded = { dumped_code };
 
@@ -49,7 +49,7 @@ impl Dump {
 
     // Lowers the least age to this one, where it is greater.
     fn lower(&mut self, age: u64)
-        ensures { self.new ≡ lowered age self.old }
+        ensures { self.new ≡ with_lower_least age self.old }
     {
         self.least = self.least.min(age);
     }
@@ -67,7 +67,7 @@ impl Dump {
 pub(crate) struct NewAge(pub(crate) u64);
 
 impl Edit<Dump> for NewAge {
-    ghost edited = { λ new. lowered new.0 };
+    ghost edited = { λ new. with_lower_least new.0 };
 
     fn edit(&self, row: &mut Dump) {
         row.lower(self.0);

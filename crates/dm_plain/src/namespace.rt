@@ -2,8 +2,8 @@
 
 ghost use Rattle.std.specs.Prelude.{◌≡◌, ◌+◌, ◌≤◌, length, OnErr, OnOk};
 ghost use Rattle.std.specs.Option.{option_copied, option_map};
-ghost use Rattle.dm_plain.specs.Namespace.{bytes_of, no_files, written};
-ghost use Rattle.dm_plain.specs.Steps.{after, bytes_dumped, range_replaced, restored, with_age, with_dump, without_dump, without_file, EndsInLimit, TakesMemory};
+ghost use Rattle.dm_plain.specs.Namespace.{bytes_of, no_files, with_file};
+ghost use Rattle.dm_plain.specs.Steps.{namespace_after, bytes_dumped, range_replaced, with_restored_file, with_age, with_dump, without_dump, without_file, EndsInLimit, TakesMemory};
 
 use crate::dump::{Dump, NewAge};
 use crate::patch::patch;
@@ -53,7 +53,7 @@ impl Plain {
     pub fn apply(&mut self, alloc: Global, step: &PlainStep) -> Result<(), NoMemory>
         // The range of a patch ends at most 16,777,216 bytes from the beginning of its file.
         requires { EndsInLimit step.now }
-        ensures ok { OnOk result (self.new ≡ after step.now self.old) }
+        ensures ok { OnOk result (self.new ≡ namespace_after step.now self.old) }
         ensures err { OnErr result (self.new ≡ self.old) }
         ensures err_by_memory { OnErr result (TakesMemory step.now) }
     {
@@ -98,7 +98,7 @@ impl Plain {
     }
 
     fn write(&mut self, path: Path, bytes: Bytes) -> Result<(), NoMemory>
-        ensures ok { OnOk result (self.new ≡ written path bytes self.old) }
+        ensures ok { OnOk result (self.new ≡ with_file path bytes self.old) }
         ensures err { OnErr result (self.new ≡ self.old) }
     {
         self.files.insert(path, bytes)?;
@@ -159,7 +159,7 @@ impl Plain {
         path: &Path,
         target: &Path,
     ) -> Result<(), NoMemory>
-        ensures ok { OnOk result (self.new ≡ restored name.now path.now target.now self.old) }
+        ensures ok { OnOk result (self.new ≡ with_restored_file name.now path.now target.now self.old) }
         ensures err { OnErr result (self.new ≡ self.old) }
     {
         match self.dumped(name, path) {

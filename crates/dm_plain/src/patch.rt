@@ -1,7 +1,8 @@
 //! Replacing a range of a file's bytes.
 
 ghost use Rattle.std.specs.Prelude.{◌≡◌, ◌+◌, ◌≤◌, length, OnErr, OnOk};
-ghost use Rattle.dm_plain.specs.Patching.{lengthened, overlaid, patched};
+ghost use Rattle.dm_base.specs.Limits.{file_limit};
+ghost use Rattle.dm_plain.specs.Patching.{with_zeros, with_overlay, with_patch};
 
 use dm_base::{Bytes, NoMemory};
 use std::alloc::{AllocError, Global};
@@ -14,8 +15,8 @@ pub(crate) fn patch(
     offset: u64,
     piece: &[u8],
 ) -> Result<(), NoMemory>
-    requires { offset + length piece.now ≤ 16777216 }
-    ensures ok { OnOk result (bytes.new ≡ patched offset piece.now bytes.old) }
+    requires { offset + length piece.now ≤ file_limit }
+    ensures ok { OnOk result (bytes.new ≡ with_patch offset piece.now bytes.old) }
     ensures err { OnErr result (bytes.new ≡ bytes.old) }
 {
     let mut items = mem::replace(bytes, Bytes::from_vec(Vec::new(alloc))).into_vec();
@@ -27,8 +28,8 @@ pub(crate) fn patch(
 
 // Writes a piece over the bytes at a place, which are lengthened with zeros where it ends past their end.
 fn write_over(bytes: &mut Vec<u8>, place: usize, piece: &[u8]) -> Result<(), AllocError>
-    requires { place + length piece.now ≤ 16777216 }
-    ensures ok { OnOk result (bytes.new.items ≡ overlaid place piece.now (lengthened (place + length piece.now) bytes.old.items)) }
+    requires { place + length piece.now ≤ file_limit }
+    ensures ok { OnOk result (bytes.new.items ≡ with_overlay place piece.now (with_zeros (place + length piece.now) bytes.old.items)) }
     ensures err { OnErr result (bytes.new.items ≡ bytes.old.items) }
 {
     lengthen(bytes, place + piece.len())?;
@@ -37,7 +38,7 @@ fn write_over(bytes: &mut Vec<u8>, place: usize, piece: &[u8]) -> Result<(), All
 }
 
 fn lengthen(bytes: &mut Vec<u8>, end: usize) -> Result<(), AllocError>
-    ensures ok { OnOk result (bytes.new.items ≡ lengthened end bytes.old.items) }
+    ensures ok { OnOk result (bytes.new.items ≡ with_zeros end bytes.old.items) }
     ensures err { OnErr result (bytes.new.items ≡ bytes.old.items) }
 {
     if bytes.len() < end {
@@ -48,7 +49,7 @@ fn lengthen(bytes: &mut Vec<u8>, end: usize) -> Result<(), AllocError>
 
 fn overlay(bytes: &mut [u8], place: usize, piece: &[u8])
     requires { place + length piece.now ≤ length bytes.old }
-    ensures { bytes.new ≡ overlaid place piece.now bytes.old }
+    ensures { bytes.new ≡ with_overlay place piece.now bytes.old }
 {
     bytes[place..place + piece.len()].copy_from_slice(piece);
 }

@@ -3,7 +3,7 @@ use Rattle.std.proofs.Common.{◌≡◌, ℕ, ◌+◌, ◌-◌, List, [], ◌∷
 use Rattle.std.specs.FinMap as map
 use Rattle.std.proofs.lemmas.Bool.{eq-eqb, ne_eqb}
 use Rattle.dm_base.specs.declared.volume.Piece.{Piece}
-use Rattle.dm_rules.specs.Known.{Known, agrees, may_be}
+use Rattle.dm_rules.specs.Known.{Known, agrees_with_known, may_be}
 use Rattle.dm_state.specs.Tables.{Numbered}
 use Rattle.dm_parts.specs.declared.state.Reserved.{Reserved}
 use Rattle.dm_parts.specs.declared.state.WrittenZone.{WrittenZone}
@@ -30,14 +30,14 @@ pub written_end : (bytes : List ℕ) (r : Reserved) (written : Numbered WrittenZ
 written_end bytes r written k ps whole none so = sym (ap (are_written bytes r written k) none) ∙ so
 
 -- ---- known bytes
-pub agrees_on : (known : Known) (at next : ℕ) (bs rest : List ℕ) (b : ℕ) (whole : Bool) → bs ≡ b ∷ rest → next ≡ at + 1 → may_be (map.get known at) b ≡ true → agrees known at bs ≡ whole → agrees known next rest ≡ whole
-unfolding agrees
-agrees_on known at next bs rest b whole is one here so = ap (λ n. agrees known n rest) one ∙ sym (ap (agrees known at) is ∙ ap (λ t. t && agrees known (at + 1) rest) here) ∙ so
+pub agrees_on : (known : Known) (at next : ℕ) (bs rest : List ℕ) (b : ℕ) (whole : Bool) → bs ≡ b ∷ rest → next ≡ at + 1 → may_be (map.get known at) b ≡ true → agrees_with_known known at bs ≡ whole → agrees_with_known known next rest ≡ whole
+unfolding agrees_with_known
+agrees_on known at next bs rest b whole is one here so = ap (λ n. agrees_with_known known n rest) one ∙ sym (ap (agrees_with_known known at) is ∙ ap (λ t. t && agrees_with_known known (at + 1) rest) here) ∙ so
 
-pub agrees_not : (known : Known) (at : ℕ) (bs rest : List ℕ) (b : ℕ) (whole : Bool) → bs ≡ b ∷ rest → may_be (map.get known at) b ≡ false → agrees known at bs ≡ whole → false ≡ whole
-unfolding agrees
-agrees_not known at bs rest b whole is here so = sym (ap (agrees known at) is ∙ ap (λ t. t && agrees known (at + 1) rest) here) ∙ so
+pub agrees_not : (known : Known) (at : ℕ) (bs rest : List ℕ) (b : ℕ) (whole : Bool) → bs ≡ b ∷ rest → may_be (map.get known at) b ≡ false → agrees_with_known known at bs ≡ whole → false ≡ whole
+unfolding agrees_with_known
+agrees_not known at bs rest b whole is here so = sym (ap (agrees_with_known known at) is ∙ ap (λ t. t && agrees_with_known known (at + 1) rest) here) ∙ so
 
-pub agrees_end : (known : Known) (at : ℕ) (bs : List ℕ) (whole : Bool) → bs ≡ [] → agrees known at bs ≡ whole → true ≡ whole
-unfolding agrees
-agrees_end known at bs whole none so = sym (ap (agrees known at) none) ∙ so
+pub agrees_end : (known : Known) (at : ℕ) (bs : List ℕ) (whole : Bool) → bs ≡ [] → agrees_with_known known at bs ≡ whole → true ≡ whole
+unfolding agrees_with_known
+agrees_end known at bs whole none so = sym (ap (agrees_with_known known at) none) ∙ so

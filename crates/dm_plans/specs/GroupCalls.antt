@@ -27,10 +27,10 @@ use Rattle.dm_parts.specs.declared.state.Side.{Side}
 use Rattle.dm_parts.specs.declared.state.Worker.{Worker}
 use Rattle.dm_parts.specs.declared.state.WrittenZone.{WrittenZone}
 use Rattle.dm_tables.specs.Rows.{any}
-use Rattle.dm_rules.specs.Numbers.{greater, narrowed}
+use Rattle.dm_rules.specs.Numbers.{greater, as_word}
 use Rattle.dm_rules.specs.Plan.{rooms, pieces_of}
 use Rattle.dm_parts.specs.FirstVersion.{all_chunks}
-use Rattle.dm_rules.specs.Zone.{chunk_count, cut, zone}
+use Rattle.dm_rules.specs.Zone.{chunk_count, chunk_split, zone}
 use Rattle.dm_rules.specs.Version.{first_version}
 use Rattle.dm_state.specs.Tables.{Numbered}
 use Rattle.dm_state.specs.Limits.{volumes_limit}
@@ -127,7 +127,7 @@ reserve g s b len n =
       own = (is_none (map.get group.tables.bitfiles b.0), 11) ∷ [];
       token = (may_reserve (map.get s.copies b.0) len, 11) ∷ [];
       making = (is_none (map.get group.reservations n), 2) ∷ [];
-      refusals = (nat_lt (rooms (spaces group)) len, answer.GroupRefused (error.NoRoom (narrowed (rooms (spaces group))) len)) ∷ [];
+      refusals = (nat_lt (rooms (spaces group)) len, answer.GroupRefused (error.NoRoom (as_word (rooms (spaces group))) len)) ∷ [];
       opens = opening.Reservation g n (record { bfid = b; len = len; chunk = chunk; pieces = pieces; chunks = all_chunks first_version chunk pieces });
     }
 
@@ -179,7 +179,7 @@ unmount g m (Some x) = record (grouped g answer.Unmounted) { ends = ending.Mount
 -- the zone that a piece of these bytes is to become, under an epoch
 abbrev pub zone_of : ℕ → List ℕ → Reserved → Piece → List ℕ
 zone_of epoch bytes r p =
-    zone epoch (cut first_version r.bfid.0 r.len p.offset (take p.len (drop p.offset bytes)) r.chunk)
+    zone epoch (chunk_split first_version r.bfid.0 r.len p.offset (take p.len (drop p.offset bytes)) r.chunk)
 
 -- the piece is a part of these bytes, and can be one zone
 abbrev pub is_part : List ℕ → Reserved → Piece → Bool

@@ -12,7 +12,7 @@ use Rattle.dm_parts.specs.declared.state.Side.{Side}
 use Rattle.dm_rules.specs.Label.{label, first_zone}
 use Rattle.dm_rules.specs.Zone.{zone_length}
 use Rattle.dm_rules.specs.Version.{first_version}
-use Rattle.dm_rules.specs.Known.{agrees}
+use Rattle.dm_rules.specs.Known.{agrees_with_known}
 use Rattle.dm_parts.specs.Volumes.{same_text}
 use Rattle.dm_plans.specs.GroupCalls.{grouped, no_group, no_token, is_new}
 use Rattle.dm_parts.specs.Plan.{Plan}
@@ -53,7 +53,7 @@ read_mark w g place n bytes (origin.Chunk b c) =
 abbrev pub read_chunk : ℕ → GroupId → Image → MountState → ℕ → ℕ → List ℕ → Plan
 read_chunk w g image x place n bytes = record (grouped g (answer.ChunkRead bytes)) {
   own = (is_readable image.size x.origin place n, 23) ∷ [];
-  making = (nat_eq (length bytes) n && agrees image.known place bytes, 23) ∷ [];
+  making = (nat_eq (length bytes) n && agrees_with_known image.known place bytes, 23) ∷ [];
   mark = read_mark w g place n bytes x.origin;
 }
 

@@ -5,7 +5,7 @@ ghost use Rattle.std.specs.FinMap as map;
 ghost use Rattle.std.specs.List.{list_any};
 ghost use Rattle.std.specs.Option.{option_copied};
 ghost use Rattle.dm_plans.specs.GroupCalls.{abort as abort_plan, add_volume as add_volume_plan, all_written as all_written_of, are_written as are_written_of, commit as commit_plan, group_journalled, group_plan, is_labelled as is_labelled_of, is_none, is_part as is_part_of, is_zone_of as is_zone_of_piece, may_reserve as may_reserve_of, is_new as is_new_of, missing as missing_plan, piece_at as piece_of, mount_chunk_in as mount_chunk_in_plan, mount_chunk_of as mount_chunk_of_plan, mount_piece_of as mount_piece_of_plan, mount_chunk as mount_chunk_plan, mount_new as mount_new_plan, mount_piece as mount_piece_plan, mounting, no_mounts as no_mounts_of, recalls_from as recalls_from_of, reservation_in, reserve as reserve_plan, side_plan, unmount as unmount_plan, volumes as volumes_plan};
-ghost use Rattle.dm_rules.specs.Numbers.{narrowed};
+ghost use Rattle.dm_rules.specs.Numbers.{as_word};
 ghost use Rattle.dm_parts.specs.Plan.{prepared};
 ghost use Rattle.dm_parts.specs.Tests.{first_true, lowest_false};
 ghost use Rattle.dm_parts.specs.Volumes.{epoch_or, mount_refusals};
@@ -580,7 +580,7 @@ fn all_written(
 
 // The number as 64 bits hold it.
 fn narrow(number: u128) -> u64
-    ensures { result ≡ narrowed number }
+    ensures { result ≡ as_word number }
 {
     number.min(u128::from(u64::MAX)) as u64
 }

@@ -3,7 +3,7 @@
 ghost use Rattle.std.specs.Prelude.{◌≡◌, None, false, IfOk};
 ghost use Rattle.std.specs.FinMap as map;
 ghost use Rattle.std.specs.Option.{option_copied};
-ghost use Rattle.dm_rules.specs.Known.{agrees as agrees_of, may_be as may_be_of};
+ghost use Rattle.dm_rules.specs.Known.{agrees_with_known as agrees_of, may_be as may_be_of};
 ghost use Rattle.dm_rules.specs.Zone.{zone_length as zone_length_of};
 ghost use Rattle.dm_rules.specs.Version.{first_version};
 ghost use Rattle.dm_parts.specs.Plan.{prepared};

@@ -6,7 +6,7 @@ use Rattle.std.proofs.lemmas.List.{length-take-le, get_or-take, get_or-drop}
 use Rattle.std.specs.Cmp.{nat_cmp_total}
 use Rattle.std.specs.Ordering.{nat_cmp}
 use Rattle.std.specs.FinMap as map
-use Rattle.dm_rules.specs.Known.{Known, within, written, forgotten, may_be, agrees, byte_and, known_bytes, Holds}
+use Rattle.dm_rules.specs.Known.{Known, within, known_with_write, known_without_range, may_be, agrees_with_known, byte_and, known_bytes, Holds}
 
 -- one byte more is known
 insert_here : (m : Known) (k v : ℕ) → map.get (map.insert m k v) k ≡ Some v
@@ -55,33 +55,33 @@ same_bytes b bs (Some a) (Some as_known) was may rest is =
     subst (λ (l : List ℕ). b ∷ bs ≡ l) whole (λ i. head i ∷ tail i)
 
 -- each byte that was written is known at its place
-pub get-written_in : (place : ℕ) (bytes : List ℕ) (known : Known) (i : ℕ) → i < length bytes → map.get (written place bytes known) (place + i) ≡ Some (get_or bytes i 0)
-unfolding written
+pub get-written_in : (place : ℕ) (bytes : List ℕ) (known : Known) (i : ℕ) → i < length bytes → map.get (known_with_write place bytes known) (place + i) ≡ Some (get_or bytes i 0)
+unfolding known_with_write
 get-written_in place [] known i below = absurd (omega (arith, below))
 get-written_in place (b ∷ bs) known zero below =
     let at : place + 0 ≡ place = omega arith in
-    subst (λ (p : ℕ). map.get (map.insert (written (place + 1) bs known) place b) p ≡ Some b) (sym at) (insert_here (written (place + 1) bs known) place b)
+    subst (λ (p : ℕ). map.get (map.insert (known_with_write (place + 1) bs known) place b) p ≡ Some b) (sym at) (insert_here (known_with_write (place + 1) bs known) place b)
 get-written_in place (b ∷ bs) known (suc i) below =
     let at : place + 1 + i ≡ place + suc i = omega arith in
-    insert_beside (written (place + 1) bs known) place b (place + suc i) (λ e. omega (arith, e))
-    ∙ subst (λ (p : ℕ). map.get (written (place + 1) bs known) p ≡ Some (get_or bs i 0)) at (get-written_in (place + 1) bs known i (omega (arith, below)))
+    insert_beside (known_with_write (place + 1) bs known) place b (place + suc i) (λ e. omega (arith, e))
+    ∙ subst (λ (p : ℕ). map.get (known_with_write (place + 1) bs known) p ≡ Some (get_or bs i 0)) at (get-written_in (place + 1) bs known i (omega (arith, below)))
 
 -- what is known elsewhere stays known
-pub get-written_out : (place : ℕ) (bytes : List ℕ) (known : Known) (p : ℕ) → (p < place) ⊎ (place + length bytes ≤ p) → map.get (written place bytes known) p ≡ map.get known p
-unfolding written
+pub get-written_out : (place : ℕ) (bytes : List ℕ) (known : Known) (p : ℕ) → (p < place) ⊎ (place + length bytes ≤ p) → map.get (known_with_write place bytes known) p ≡ map.get known p
+unfolding known_with_write
 get-written_out place [] known p out = refl
 get-written_out place (b ∷ bs) known p out =
-    insert_beside (written (place + 1) bs known) place b p (λ e. ⊎_elim (λ below. omega (arith, e, below)) (λ above. omega (arith, e, above)) out)
+    insert_beside (known_with_write (place + 1) bs known) place b p (λ e. ⊎_elim (λ below. omega (arith, e, below)) (λ above. omega (arith, e, above)) out)
     ∙ get-written_out (place + 1) bs known p (⊎_elim (λ below. inl (omega (arith, below))) (λ above. inr (omega (arith, above))) out)
 
 -- nothing is known in a range that was forgotten
-pub get-forgotten_in : (place n : ℕ) (known : Known) (p : ℕ) → place ≤ p → p < place + n → map.get (forgotten place n known) p ≡ None
-unfolding forgotten
+pub get-forgotten_in : (place n : ℕ) (known : Known) (p : ℕ) → place ≤ p → p < place + n → map.get (known_without_range place n known) p ≡ None
+unfolding known_without_range
 get-forgotten_in place n known p from below = kept_where (λ q. not (within place n q)) known p ∙ grind (arith, nat_tests)
 
 -- what is known elsewhere stays known
-pub get-forgotten_out : (place n : ℕ) (known : Known) (p : ℕ) → (p < place) ⊎ (place + n ≤ p) → map.get (forgotten place n known) p ≡ map.get known p
-unfolding forgotten
+pub get-forgotten_out : (place n : ℕ) (known : Known) (p : ℕ) → (p < place) ⊎ (place + n ≤ p) → map.get (known_without_range place n known) p ≡ map.get known p
+unfolding known_without_range
 get-forgotten_out place n known p out = kept_where (λ q. not (within place n q)) known p ∙ grind (arith, nat_tests)
 
 -- a place lies before a range, in it or behind it
@@ -96,13 +96,13 @@ lies place n p = elim (cases_lt p place) [
 ]
 
 -- what is known after a write was known before in other places
-pub known_after_write : (place : ℕ) (bytes : List ℕ) (known : Known) (p b : ℕ) → map.get (written place bytes known) p ≡ Some b
+pub known_after_write : (place : ℕ) (bytes : List ℕ) (known : Known) (p b : ℕ) → map.get (known_with_write place bytes known) p ≡ Some b
     → ((i : ℕ) × (i < length bytes) × (p ≡ place + i) × (b ≡ get_or bytes i 0)) ⊎ (((p < place) ⊎ (place + length bytes ≤ p)) × (map.get known p ≡ Some b))
 known_after_write place bytes known p b is = elim (lies place (length bytes) p) [
   | inside from below ↦
       let at : place + (p - place) ≡ p = omega arith in
       let here : Some b ≡ Some (get_or bytes (p - place) 0) =
-      sym is ∙ ap (λ (q : ℕ). map.get (written place bytes known) q) (sym at) ∙ get-written_in place bytes known (p - place) (omega (arith, from, below)) in
+      sym is ∙ ap (λ (q : ℕ). map.get (known_with_write place bytes known) q) (sym at) ∙ get-written_in place bytes known (p - place) (omega (arith, from, below)) in
       inl (p - place, omega (arith, from, below), sym at, same_some here)
   | outside out ↦ inr (out, sym (get-written_out place bytes known p out) ∙ is)
 ]
@@ -113,7 +113,7 @@ pub record KeepsOutside (place n : ℕ) (old new : List ℕ) : Type 0 where
   pub byte : (p : ℕ) → p < length old → (p < place) ⊎ (place + n ≤ p) → slice_index new p ≡ slice_index old p
 
 -- a content whose range was changed in whatever way holds what was known elsewhere
-pub holds-forgotten : (place n : ℕ) (known : Known) (old new : List ℕ) → KeepsOutside place n old new → Holds known old → Holds (forgotten place n known) new
+pub holds-forgotten : (place n : ℕ) (known : Known) (old new : List ℕ) → KeepsOutside place n old new → Holds known old → Holds (known_without_range place n known) new
 holds-forgotten place n known old new same holds p b is = elim (lies place n p) [
   | inside from below ↦ absurd (none_some (sym (get-forgotten_in place n known p from below) ∙ is))
   | outside out ↦
@@ -123,7 +123,7 @@ holds-forgotten place n known old new same holds p b is = elim (lies place n p) 
 
 -- a content with these bytes in the range holds them too
 pub holds-written : (place : ℕ) (bytes : List ℕ) (known : Known) (old new : List ℕ) → KeepsOutside place (length bytes) old new
-    → ((i : ℕ) → i < length bytes → (place + i < length new) × (slice_index new (place + i) ≡ slice_index bytes i)) → Holds known old → Holds (written place bytes known) new
+    → ((i : ℕ) → i < length bytes → (place + i < length new) × (slice_index new (place + i) ≡ slice_index bytes i)) → Holds known old → Holds (known_with_write place bytes known) new
 holds-written place bytes known old new same there holds p b is = elim (known_after_write place bytes known p b is) [
   | inl here ↦
       let i = here.0 in
@@ -133,27 +133,27 @@ holds-written place bytes known old new same there holds p b is = elim (known_af
 ]
 
 -- to know less
-pub holds-forgotten_same : (place n : ℕ) (known : Known) (content : List ℕ) → Holds known content → Holds (forgotten place n known) content
+pub holds-forgotten_same : (place n : ℕ) (known : Known) (content : List ℕ) → Holds known content → Holds (known_without_range place n known) content
 holds-forgotten_same place n known content =
     holds-forgotten place n known content content (record { inside = λ p below. below; byte = λ p below out. refl })
 
 -- the bytes agree where each is the known one
 pub agrees-each : (known : Known) (place : ℕ) (bytes : List ℕ) → ((i b : ℕ) → i < length bytes → map.get known (place + i) ≡ Some b → slice_index bytes i ≡ b)
-    → IsTrue (agrees known place bytes)
-unfolding agrees
+    → IsTrue (agrees_with_known known place bytes)
+unfolding agrees_with_known
 agrees-each known place [] each = refl
 agrees-each known place (b ∷ bs) each =
     let at : place + 0 ≡ place = omega arith in
-    both_true (may_be (map.get known place) b) (agrees known (place + 1) bs)
+    both_true (may_be (map.get known place) b) (agrees_with_known known (place + 1) bs)
     (may_be_each (map.get known place) b (λ a is. each 0 a (omega arith) (ap (λ (p : ℕ). map.get known p) at ∙ is)))
     (agrees-each known (place + 1) bs (λ i a below is.
     let next : place + suc i ≡ place + 1 + i = omega arith in
     each (suc i) a (omega (arith, below)) (ap (λ (p : ℕ). map.get known p) next ∙ is)))
 
 -- and only there
-pub each-agrees : (known : Known) (place : ℕ) (bytes : List ℕ) → IsTrue (agrees known place bytes) → (i b : ℕ) → i < length bytes → map.get known (place + i) ≡ Some b
+pub each-agrees : (known : Known) (place : ℕ) (bytes : List ℕ) → IsTrue (agrees_with_known known place bytes) → (i b : ℕ) → i < length bytes → map.get known (place + i) ≡ Some b
     → slice_index bytes i ≡ b
-unfolding agrees
+unfolding agrees_with_known
 each-agrees known place [] agree i b below is = absurd (omega (arith, below))
 each-agrees known place (a ∷ bs) agree zero b below is =
     let at : place ≡ place + 0 = omega arith in
@@ -164,12 +164,12 @@ each-agrees known place (a ∷ bs) agree (suc i) b below is =
 
 -- bytes that stand in a content which holds what is known agree with it
 pub holds-agrees : (known : Known) (content : List ℕ) (place : ℕ) (bytes : List ℕ) → Holds known content
-    → ((i : ℕ) → i < length bytes → slice_index bytes i ≡ slice_index content (place + i)) → IsTrue (agrees known place bytes)
+    → ((i : ℕ) → i < length bytes → slice_index bytes i ≡ slice_index content (place + i)) → IsTrue (agrees_with_known known place bytes)
 holds-agrees known content place bytes holds read = agrees-each known place bytes (λ i b below is. read i below ∙ (holds (place + i) b is).1)
 
 -- bytes that agree with a range of which each byte is known are those bytes
-pub agrees-known_bytes : (known : Known) (place : ℕ) (bytes was : List ℕ) → IsTrue (agrees known place bytes) → known_bytes known place (length bytes) ≡ Some was → bytes ≡ was
-unfolding agrees known_bytes
+pub agrees-known_bytes : (known : Known) (place : ℕ) (bytes was : List ℕ) → IsTrue (agrees_with_known known place bytes) → known_bytes known place (length bytes) ≡ Some was → bytes ≡ was
+unfolding agrees_with_known known_bytes
 agrees-known_bytes known place [] was agree is = same_some is
 agrees-known_bytes known place (b ∷ bs) was agree is =
     same_bytes b bs (map.get known place) (known_bytes known (place + 1) (length bs)) was (first_true _ _ agree)
@@ -202,15 +202,15 @@ known_bytes-same one other place (suc n) same =
 
 -- a part of what was written is known
 pub known_bytes-written : (place : ℕ) (bytes : List ℕ) (known : Known) (start n : ℕ) → start + n ≤ length bytes
-    → known_bytes (written place bytes known) (place + start) n ≡ Some (take n (drop start bytes))
+    → known_bytes (known_with_write place bytes known) (place + start) n ≡ Some (take n (drop start bytes))
 known_bytes-written place bytes known start n within =
     let piece = take n (drop start bytes) in
     let long : length piece ≡ n = length-take-le n (drop start bytes) (omega (arith, within, length-drop start bytes)) in
-    let each : (i : ℕ) → i < length piece → map.get (written place bytes known) (place + start + i) ≡ Some (slice_index piece i) = λ i below.
+    let each : (i : ℕ) → i < length piece → map.get (known_with_write place bytes known) (place + start + i) ≡ Some (slice_index piece i) = λ i below.
     let at : place + start + i ≡ place + (start + i) = omega arith in
-    ap (λ (p : ℕ). map.get (written place bytes known) p) at ∙ get-written_in place bytes known (start + i) (omega (arith, below, long, within))
+    ap (λ (p : ℕ). map.get (known_with_write place bytes known) p) at ∙ get-written_in place bytes known (start + i) (omega (arith, below, long, within))
     ∙ ap (λ (b : ℕ). Some b) (sym (get_or-take n (drop start bytes) i 0 (omega (arith, below, long)) ∙ get_or-drop start bytes i 0)) in
-    ap (λ (m : ℕ). known_bytes (written place bytes known) (place + start) m) (sym long) ∙ known_bytes-each (written place bytes known) (place + start) piece each
+    ap (λ (m : ℕ). known_bytes (known_with_write place bytes known) (place + start) m) (sym long) ∙ known_bytes-each (known_with_write place bytes known) (place + start) piece each
 
 -- two ranges have no place in common
 abbrev pub Apart : ℕ → ℕ → ℕ → ℕ → Type 0
@@ -218,11 +218,11 @@ Apart place n start m = (start + m ≤ place) ⊎ (place + n ≤ start)
 
 -- a write leaves what is known of another range
 pub known_bytes-written_apart : (place : ℕ) (bytes : List ℕ) (known : Known) (start m : ℕ) → Apart place (length bytes) start m
-    → known_bytes (written place bytes known) start m ≡ known_bytes known start m
-known_bytes-written_apart place bytes known start m apart = known_bytes-same (written place bytes known) known start m (λ p from below.
+    → known_bytes (known_with_write place bytes known) start m ≡ known_bytes known start m
+known_bytes-written_apart place bytes known start m apart = known_bytes-same (known_with_write place bytes known) known start m (λ p from below.
     get-written_out place bytes known p (⊎_elim (λ before. inl (omega (arith, before, below))) (λ behind. inr (omega (arith, behind, from))) apart))
 
 -- and so does one that failed
-pub known_bytes-forgotten_apart : (place n : ℕ) (known : Known) (start m : ℕ) → Apart place n start m → known_bytes (forgotten place n known) start m ≡ known_bytes known start m
-known_bytes-forgotten_apart place n known start m apart = known_bytes-same (forgotten place n known) known start m (λ p from below.
+pub known_bytes-forgotten_apart : (place n : ℕ) (known : Known) (start m : ℕ) → Apart place n start m → known_bytes (known_without_range place n known) start m ≡ known_bytes known start m
+known_bytes-forgotten_apart place n known start m apart = known_bytes-same (known_without_range place n known) known start m (λ p from below.
     get-forgotten_out place n known p (⊎_elim (λ before. inl (omega (arith, before, below))) (λ behind. inr (omega (arith, behind, from))) apart))

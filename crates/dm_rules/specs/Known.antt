@@ -11,13 +11,13 @@ abbrev pub within : ℕ → ℕ → ℕ → Bool
 within place n p = nat_le place p && nat_lt p (place + n)
 
 -- the bytes were written from `place` on: they are known there
-unfoldable pub written : ℕ → List ℕ → Known → Known
-written place [] known = known
-written place (b ∷ bs) known = map.insert (written (place + 1) bs known) place b
+unfoldable pub known_with_write : ℕ → List ℕ → Known → Known
+known_with_write place [] known = known
+known_with_write place (b ∷ bs) known = map.insert (known_with_write (place + 1) bs known) place b
 
 -- a write of the n places from `place` on failed: what stands there is not known
-unfoldable pub forgotten : ℕ → ℕ → Known → Known
-forgotten place n known = map.retain_keys known (λ p. not (within place n p))
+unfoldable pub known_without_range : ℕ → ℕ → Known → Known
+known_without_range place n known = map.retain_keys known (λ p. not (within place n p))
 
 -- whether this byte may stand at a place of which this is known
 abbrev pub may_be : Option ℕ → ℕ → Bool
@@ -25,9 +25,9 @@ may_be None b = true
 may_be (Some known) b = known == b
 
 -- whether the bytes agree, from `place` on, with each place that is known
-unfoldable pub agrees : Known → ℕ → List ℕ → Bool
-agrees known place [] = true
-agrees known place (b ∷ bs) = may_be (map.get known place) b && agrees known (place + 1) bs
+unfoldable pub agrees_with_known : Known → ℕ → List ℕ → Bool
+agrees_with_known known place [] = true
+agrees_with_known known place (b ∷ bs) = may_be (map.get known place) b && agrees_with_known known (place + 1) bs
 
 -- a byte and bytes, where both are known
 abbrev pub byte_and : Option ℕ → Option (List ℕ) → Option (List ℕ)

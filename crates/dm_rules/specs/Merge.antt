@@ -5,7 +5,7 @@ use Rattle.dm_base.specs.declared.volume.VolState.{VolState}
 use Rattle.dm_base.specs.declared.volume.VolState.TheVariants.{Empty, Filling, Full, Held}
 use Rattle.dm_rules.specs.declared.space.Space.{Space}
 use Rattle.dm_rules.specs.Numbers.{last_u64}
-use Rattle.dm_rules.specs.State.{is_in_use, used}
+use Rattle.dm_rules.specs.State.{is_in_use, used_bytes}
 use Rattle.dm_rules.specs.Version.{first_version, second_version}
 use Rattle.dm_rules.specs.Zone.{weight}
 
@@ -15,7 +15,7 @@ weights version chunks = sum_by (λ c. weight version c.len) chunks
 
 -- whether what is live on a volume weighs less than this percentage of what its zones take
 abbrev pub is_below : ℕ → ℕ → ℕ → Bool
-is_below threshold weighs tip = nat_lt (100 * weighs) (threshold * used tip)
+is_below threshold weighs tip = nat_lt (100 * weighs) (threshold * used_bytes tip)
 
 -- whether a volume is to be merged: by its state, what its live chunks weigh, whether it has a reservation, and whether
 -- it is mounted

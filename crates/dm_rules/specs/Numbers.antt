@@ -1,5 +1,5 @@
 -- Numbers of 64 bits.
-use Rattle.std.specs.Prelude.{ℕ, ◌+◌, ◌-◌}
+use Rattle.std.specs.Prelude.{ℕ, ◌+◌, ◌-◌, ◌*◌, ◌^◌}
 
 -- the lesser of two
 abbrev pub lesser : ℕ → ℕ → ℕ
@@ -15,5 +15,14 @@ last_u64 = 18446744073709551615
 
 -- a number as 64 bits hold it: one that passes them stands at their last value. No state that a run of this product
 -- reaches comes near
-abbrev pub narrowed : ℕ → ℕ
-narrowed n = lesser n last_u64
+abbrev pub as_word : ℕ → ℕ
+as_word n = lesser n last_u64
+
+-- the fewest things, or bytes, that 32 bits can't count: a piece of so many chunks has no zone, and no payload has a list of
+-- so many
+abbrev pub count_limit : ℕ
+count_limit = 2 ^ 32
+
+-- a bitfile's identifier: the site in the upper 64 bits, the counter in the lower 64
+abbrev pub bfid_of : ℕ → ℕ → ℕ
+bfid_of site counter = site * 2 ^ 64 + counter

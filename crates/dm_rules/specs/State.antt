@@ -6,8 +6,8 @@ use Rattle.dm_base.specs.declared.volume.VolState.TheVariants.{Empty, Filling, F
 use Rattle.dm_rules.specs.Label.{first_zone}
 
 -- how many bytes zones take on a volume whose next zone stands at `tip`, those that nothing needs any more too
-abbrev pub used : ℕ → ℕ
-used tip = tip - first_zone
+abbrev pub used_bytes : ℕ → ℕ
+used_bytes tip = tip - first_zone
 
 -- the state of a volume whose next zone stands at `tip`, which has this room and is held since that time, if it is
 abbrev pub state_of : ℕ → ℕ → Option Secs → VolState

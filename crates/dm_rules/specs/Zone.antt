@@ -52,20 +52,20 @@ abbrev pub chunk_count : ℕ → ℕ → ℕ
 chunk_count chunk n = div_ceil n chunk
 
 -- the bytes, which stand at `offset`, cut into `count` chunks of `chunk` bytes, the last of them what is left
-unfoldable pub cut_into : ℕ → ℕ → ℕ → ℕ → ℕ → List ℕ → ℕ → List Chunk
-cut_into version zero bfid total offset bytes chunk = []
-cut_into version (suc count) bfid total offset bytes chunk =
+unfoldable pub chunk_split_into : ℕ → ℕ → ℕ → ℕ → ℕ → List ℕ → ℕ → List Chunk
+chunk_split_into version zero bfid total offset bytes chunk = []
+chunk_split_into version (suc count) bfid total offset bytes chunk =
     let front = take chunk bytes in
     record { bfid = bfid; total = total; offset = offset; sum = chunk_sum version front; bytes = front }
-    ∷ cut_into version count bfid total (offset + length front) (drop chunk bytes) chunk
+    ∷ chunk_split_into version count bfid total (offset + length front) (drop chunk bytes) chunk
 
 -- the bytes cut into chunks for a volume of this version
-abbrev pub cut : ℕ → ℕ → ℕ → ℕ → List ℕ → ℕ → List Chunk
-cut version bfid total offset bytes chunk = cut_into version (chunk_count chunk (length bytes)) bfid total offset bytes chunk
+abbrev pub chunk_split : ℕ → ℕ → ℕ → ℕ → List ℕ → ℕ → List Chunk
+chunk_split version bfid total offset bytes chunk = chunk_split_into version (chunk_count chunk (length bytes)) bfid total offset bytes chunk
 
 -- the zone of the bytes that stand at `offset` of a bitfile, for a volume of this version and epoch
 abbrev pub zone_of : ℕ → ℕ → ℕ → ℕ → ℕ → List ℕ → ℕ → List ℕ
-zone_of version epoch bfid total offset bytes chunk = zone epoch (cut version bfid total offset bytes chunk)
+zone_of version epoch bfid total offset bytes chunk = zone epoch (chunk_split version bfid total offset bytes chunk)
 
 -- the length of a zone of n bytes
 abbrev pub zone_length : ℕ → ℕ → ℕ → ℕ

@@ -15,8 +15,8 @@ use Rattle.dm_model.specs.declared.state.Side.{Side}
 use Rattle.dm_model.specs.declared.state.Worker.{Worker}
 use Rattle.dm_model.specs.Files.{asked_by}
 use Rattle.dm_model.specs.GroupCalls.{is_recall_from, may_reserve, recalls_from}
-use Rattle.dm_invariant.specs.Among.{Among}
-use Rattle.dm_invariant.specs.Kept.{Kept}
+use Rattle.dm_invariant.specs.Among.{IsAmong}
+use Rattle.dm_invariant.specs.Kept.{InvariantHolds}
 use Rattle.dm_invariant.proofs.AskedGroups.{NumberAmong, asked_stored}
 use Rattle.dm_invariant.proofs.Lists.{passing}
 use Rattle.dm_invariant.proofs.Options.{has_value}
@@ -24,14 +24,14 @@ use Rattle.dm_runs.specs.There.{AskedEntry, ChunksFollow, CopiesOpen, MountedWho
 
 -- ---- room
 
-copy_asked : (j : Joint) (g b len : ℕ) (s : Side) (o : Option CopyState) → Kept j → map.get j.sides g ≡ Some s → map.get s.copies b ≡ o
+copy_asked : (j : Joint) (g b len : ℕ) (s : Side) (o : Option CopyState) → InvariantHolds j → map.get j.sides g ≡ Some s → map.get s.copies b ≡ o
     → may_reserve o len ≡ true → AskedEntry j g b len
 copy_asked j g b len s None k side is may = absurd (cc)
 copy_asked j g b len s (Some c) k side is may =
     let copy = (k.sides g s side).reservations.copy b c is in
     record { entry = copy.entry; is = copy.is; asked = copy.asked; sized = copy.len ∙ eqb-true c.len len (and_parts (nat_eq c.len len) _ may).0 }
 
-pub reserved_asked : (j : Joint) → Kept j → ReservedAsked j
+pub reserved_asked : (j : Joint) → InvariantHolds j → ReservedAsked j
 reserved_asked j kept g b len s side may = copy_asked j g b len s (map.get s.copies b) kept side refl may
 
 -- ---- chunks to mount
@@ -51,7 +51,7 @@ recall_from b g (Some x) recalls =
     let r = any-true (λ k r. is_recall_from b g r) x.recalls recalls in
     record { worker = x; is = refl; number = r.0; recall = r.1; there = r.2; from = r.3 }
 
-pub mounted_whole : (j : Joint) → Kept j → MountedWhole j
+pub mounted_whole : (j : Joint) → InvariantHolds j → MountedWhole j
 mounted_whole j kept w g b s side recalls =
     let r = recall_from b g (map.get j.workers w) recalls in
     let from = and_parts (nat_eq r.recall.bfid.0 b) _ r.from in
@@ -64,7 +64,7 @@ mounted_whole j kept w g b s side recalls =
     let asked : r.recall.asked ≡ asked_by (Some e.entry) =
     k.asked ∙ ap (λ q. asked_by (map.get j.daemon.tables.entries q)) same ∙ ap asked_by is in
     let group : NumberAmong g (asked_by (Some e.entry)) =
-    record { group = h.0; among = subst (λ gs. Among h.0 gs) asked h.1; same = eqb-true h.0.0 g h.2 } in
+    record { group = h.0; among = subst (λ gs. IsAmong h.0 gs) asked h.1; same = eqb-true h.0.0 g h.2 } in
     let whole = e.whole k.kind in
     record {
       entry = e.entry;
@@ -89,7 +89,7 @@ later_there c cs offset differ there =
       | false ↦ λ e. there
     ] refl
 
-chunk_follows : (from to : ℕ) (cs : List Chunk) (c : Chunk) → Joins from cs to → Among c cs
+chunk_follows : (from to : ℕ) (cs : List Chunk) (c : Chunk) → Joins from cs to → IsAmong c cs
     → (from < c.offset + c.len) × ((c.offset + c.len ≡ to) ⊎ IsSome (chunk_at (c.offset + c.len) cs))
 chunk_follows from to [] c joins among = absurd among
 chunk_follows from to (d ∷ ds) c joins (inl same) =
@@ -116,18 +116,18 @@ chunk_follows from to (d ∷ ds) c joins (inr later) =
       ],
     )
 
-pub chunks_follow : (j : Joint) → Kept j → ChunksFollow j
+pub chunks_follow : (j : Joint) → InvariantHolds j → ChunksFollow j
 chunks_follow j kept g b s row c side is among =
     (chunk_follows 0 row.len row.chunks c ((kept.sides g s side).catalogue.bitfile b row is).joins among).1
 
 -- ---- copies and numbers
 
-pub copies_open : (j : Joint) → Kept j → CopiesOpen j
+pub copies_open : (j : Joint) → InvariantHolds j → CopiesOpen j
 copies_open j kept = λ g s side b c is.
     let k = (kept.sides g s side).reservations.copy b c is in
     record { put = k.put; reservation = k.reservation }
 
-pub numbers_new : (j : Joint) → Kept j → NumbersNew j
+pub numbers_new : (j : Joint) → InvariantHolds j → NumbersNew j
 numbers_new j kept = record {
   requests = kept.requests.numbers;
   reservations = λ g s side. (kept.sides g s side).reservations.numbers;

@@ -18,10 +18,10 @@ use Rattle.dm_model.specs.declared.plan.Prepared.{Prepared}
 use Rattle.dm_model.specs.declared.state.Joint.{Joint}
 use Rattle.dm_model.specs.declared.state.Side.{Side}
 use Rattle.dm_model.specs.Effects.{at_each, groups_of_component, groups_of_ending, groups_of_mark, groups_of_opening, groups_of_payload}
-use Rattle.dm_model.specs.Plan.{illegal_call, illegal_fault, prepared}
+use Rattle.dm_model.specs.Plan.{illegal_call, illegal_fault, prepared_plan}
 use Rattle.dm_model.specs.SideShare.{side_after_ending, side_after_failed_mark, side_after_mark, side_after_opening, side_after_payload, side_after_stop, side_doubting, side_without_doubt}
-use Rattle.dm_model.specs.Step.{Entered, Run, Stepped, after_call, after_fault, after_landing, after_stop, daemon_doubt, group_doubt, landed_doubt, landed_in, looked_in, needs_of, outcome_of, plan_of, step}
-use Rattle.dm_invariant.specs.Kept.{Kept}
+use Rattle.dm_model.specs.Step.{RunEntry, Run, Stepped, after_call, after_fault, after_landing, after_stop, daemon_doubt, group_doubt, doubt_outcome, landing_outcome_in, look_outcome_in, needs_of, outcome_of, plan_of, step}
+use Rattle.dm_invariant.specs.Kept.{InvariantHolds}
 use Rattle.dm_invariant.specs.Opened.{Opened}
 use Rattle.dm_effects.proofs.PutEnded.{each_at_each}
 use Rattle.dm_runs.specs.Images.{ImagesThere, VolumesImaged}
@@ -63,15 +63,15 @@ outcome_is : (o : Option Guard) (after k : Joint) (b a : Answer) → outcome_of 
 outcome_is None after k b a is there = let same : after ≡ k = cc in subst ImagesThere same there
 outcome_is (Some guard) after k b a is there = absurd (cc)
 
-landed_is : (j k : Joint) (c : Component) (o : Option Payload) (a : Answer) → landed_doubt j c o ≡ Stepped k a → ImagesThere j → ImagesThere k
+landed_is : (j k : Joint) (c : Component) (o : Option Payload) (a : Answer) → doubt_outcome j c o ≡ Stepped k a → ImagesThere j → ImagesThere k
 landed_is j k c None a is there = absurd (cc)
 landed_is j k c (Some p) a is there = let same : after_landing c p j ≡ k = cc in subst ImagesThere same (landing_images c p j there)
 
-landed_group : (j k : Joint) (g : GroupId) (o : Option Side) (a : Answer) → landed_in j g o ≡ Stepped k a → ImagesThere j → ImagesThere k
+landed_group : (j k : Joint) (g : GroupId) (o : Option Side) (a : Answer) → landing_outcome_in j g o ≡ Stepped k a → ImagesThere j → ImagesThere k
 landed_group j k g None a is there = absurd (cc)
 landed_group j k g (Some s) a is there = landed_is j k (component.Group g) (group_doubt g s) a is there
 
-looked_group : (j k : Joint) (o : Option Side) (a : Answer) → looked_in j o ≡ Stepped k a → ImagesThere j → ImagesThere k
+looked_group : (j k : Joint) (o : Option Side) (a : Answer) → look_outcome_in j o ≡ Stepped k a → ImagesThere j → ImagesThere k
 looked_group j k None a is there = absurd (cc)
 looked_group j k (Some s) a is there = let same : j ≡ k = cc in subst ImagesThere same there
 
@@ -86,11 +86,11 @@ Any e = Unit {0}
 pub event_images : EachKeeps (λ j e. Unit {0}) ImagesThere
 event_images j k w (event.Call c) a any there is =
     let p = plan_of j c in
-    outcome_is (illegal_call p (needs_of j w c)) (after_call w (prepared p) j) k (prepared p).answer a is (call_images w (prepared p) j there)
+    outcome_is (illegal_call p (needs_of j w c)) (after_call w (prepared_plan p) j) k (prepared_plan p).answer a is (call_images w (prepared_plan p) j there)
 event_images j k w (event.Fault c healed checkpointed) a any there is =
     let p = plan_of j c in
-    outcome_is (illegal_fault p (needs_of j w c)) (after_fault w (prepared p) (healed && checkpointed) j) k _ a is
-    (fault_images w (prepared p) (healed && checkpointed) j there)
+    outcome_is (illegal_fault p (needs_of j w c)) (after_fault w (prepared_plan p) (healed && checkpointed) j) k _ a is
+    (fault_images w (prepared_plan p) (healed && checkpointed) j there)
 event_images j k w (event.Landed component.Daemon) a any there is = landed_is j k component.Daemon (daemon_doubt j) a is there
 event_images j k w (event.Landed (component.Group g)) a any there is = landed_group j k g (map.get j.sides g.0) a is there
 event_images j k w (event.Look component.Daemon) a any there is = let same : j ≡ k = cc in subst ImagesThere same there
@@ -99,19 +99,19 @@ event_images j k w event.Stop a any there is = stop_images j k w a is there
 
 -- ---- runs
 
-all_any : (entries : List Entered) → AllByRecursion (λ e. Unit {0}) entries
+all_any : (entries : List RunEntry) → AllByRecursion (λ e. Unit {0}) entries
 all_any [] = tt
 all_any (e ∷ es) = (tt, all_any es)
 
 pub opened_images : (j : Joint) → Opened j → ImagesThere j
 opened_images j opened = λ g s is. (opened.sides g s is).images
 
-pub run_images : (j : Joint) (entries : List Entered) (k : Joint) → Opened j → Run j entries k → ImagesThere k
+pub run_images : (j : Joint) (entries : List RunEntry) (k : Joint) → Opened j → Run j entries k → ImagesThere k
 run_images j entries k opened run =
     run_keeps (λ i e. Unit {0}) ImagesThere event_images j entries k (along_all (λ e. Unit {0}) j entries (all_any entries)) (opened_images j opened) run
 
 -- a volume of the tables is one of the configuration's, of its size
-pub volumes_imaged : (j : Joint) → Kept j → ImagesThere j → VolumesImaged j
+pub volumes_imaged : (j : Joint) → InvariantHolds j → ImagesThere j → VolumesImaged j
 volumes_imaged j kept there = λ g s is vsn v at.
     let k = (kept.sides g s is).volumes.volume vsn v at in
     let i = there g s is vsn k.configured in

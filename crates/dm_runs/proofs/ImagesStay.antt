@@ -21,7 +21,7 @@ use Rattle.dm_model.specs.declared.state.Image.{Image}
 use Rattle.dm_model.specs.declared.state.Side.{Side}
 use Rattle.dm_model.specs.SideShare.{images_relabelled, images_after_step, known_by, without_known}
 use Rattle.dm_model.specs.SideShare.{side_after_ending, side_after_failed_mark, side_after_mark, side_after_opening, side_after_payload, side_after_stop, side_doubting, side_without_doubt}
-use Rattle.dm_rules.specs.Known.{forgotten, written}
+use Rattle.dm_rules.specs.Known.{known_without_range, known_with_write}
 use Rattle.dm_invariant.specs.Volumes.{ImagesFit}
 
 -- ---- images
@@ -90,11 +90,11 @@ payload_fits (Some (payload.Group g r)) s fits = step_fits s r.step fits
 pub mark_fits : (x : Mark) (s : Side) → SideImaged s → SideImaged (side_after_mark x s)
 mark_fits mark.Nothing s fits = fits
 mark_fits (mark.Zone g vsn place zone b index epoch) s fits =
-    changed_fits s.group.conf s.images vsn.0 (known_by (written place zone)) (λ i. refl) fits
+    changed_fits s.group.conf s.images vsn.0 (known_by (known_with_write place zone)) (λ i. refl) fits
 mark_fits (mark.Target g vsn m place zone) s fits =
-    changed_fits s.group.conf s.images vsn.0 (known_by (written place zone)) (λ i. refl) fits
+    changed_fits s.group.conf s.images vsn.0 (known_by (known_with_write place zone)) (λ i. refl) fits
 mark_fits (mark.Label g vsn m epoch version text) s fits =
-    changed_fits s.group.conf s.images vsn.0 (known_by (written 0 text)) (λ i. refl) fits
+    changed_fits s.group.conf s.images vsn.0 (known_by (known_with_write 0 text)) (λ i. refl) fits
 mark_fits (mark.Read g b offset bytes) s fits = fits
 mark_fits (mark.Source g m bytes) s fits = fits
 mark_fits (mark.Deleted g b) s fits = fits
@@ -102,11 +102,11 @@ mark_fits (mark.Deleted g b) s fits = fits
 pub failed_mark_fits : (x : Mark) (s : Side) → SideImaged s → SideImaged (side_after_failed_mark x s)
 failed_mark_fits mark.Nothing s fits = fits
 failed_mark_fits (mark.Zone g vsn place zone b index epoch) s fits =
-    changed_fits s.group.conf s.images vsn.0 (known_by (forgotten place (length zone))) (λ i. refl) fits
+    changed_fits s.group.conf s.images vsn.0 (known_by (known_without_range place (length zone))) (λ i. refl) fits
 failed_mark_fits (mark.Target g vsn m place zone) s fits =
-    changed_fits s.group.conf s.images vsn.0 (known_by (forgotten place (length zone))) (λ i. refl) fits
+    changed_fits s.group.conf s.images vsn.0 (known_by (known_without_range place (length zone))) (λ i. refl) fits
 failed_mark_fits (mark.Label g vsn m epoch version text) s fits =
-    changed_fits s.group.conf s.images vsn.0 (known_by (forgotten 0 (length text))) (λ i. refl) fits
+    changed_fits s.group.conf s.images vsn.0 (known_by (known_without_range 0 (length text))) (λ i. refl) fits
 failed_mark_fits (mark.Read g b offset bytes) s fits = fits
 failed_mark_fits (mark.Source g m bytes) s fits = fits
 failed_mark_fits (mark.Deleted g b) s fits = fits

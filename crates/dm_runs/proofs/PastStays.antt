@@ -7,8 +7,8 @@ use Rattle.dm_durable.specs.declared.group.VolumeRow.{VolumeRow}
 use Rattle.dm_model.specs.declared.state.Joint.{Joint}
 use Rattle.dm_model.specs.declared.state.Side.{Side}
 use Rattle.dm_model.specs.Hashed.{NoCollision}
-use Rattle.dm_model.specs.Step.{Entered, Run}
-use Rattle.dm_invariant.specs.Among.{Among}
+use Rattle.dm_model.specs.Step.{RunEntry, Run}
+use Rattle.dm_invariant.specs.Among.{IsAmong}
 use Rattle.dm_invariant.specs.Opened.{Opened}
 use Rattle.dm_once.specs.Missing.{ListedRight}
 use Rattle.dm_once.specs.WasLive.{WasLiveIn}
@@ -21,10 +21,10 @@ use Rattle.dm_runs.proofs.EventsKept.{run_kept_along}
 use Rattle.dm_runs.proofs.RunsJoined.{along_behind, run_joined}
 use Rattle.dm_runs.proofs.SumsTell.{reads_tell}
 
-along : (j : Joint) (entries : List Entered) (k : Joint) → Opened j → NoCollision j entries → Run j entries k → KeptAlong j entries
+along : (j : Joint) (entries : List RunEntry) (k : Joint) → Opened j → NoCollision j entries → Run j entries k → KeptAlong j entries
 along j entries k opened apart run = run_kept_along j entries k opened (reads_tell j entries k opened apart run) run
 
-module _ (j : Joint) (before : List Entered) (mid : Joint) (later : List Entered) (k : Joint) (opened : Opened j) (apart : NoCollision j (before ++ later))
+module _ (j : Joint) (before : List RunEntry) (mid : Joint) (later : List RunEntry) (k : Joint) (opened : Opened j) (apart : NoCollision j (before ++ later))
     (one : Run j before mid) (two : Run mid later k) where
   on : KeptAlong mid later
   on = along_behind j before mid later one (along j (before ++ later) k opened apart (run_joined j before mid later k one two))
@@ -33,10 +33,10 @@ module _ (j : Joint) (before : List Entered) (mid : Joint) (later : List Entered
   content_stays b bytes is = run_stays b bytes mid later k on two is
 
   pub live_stays : (g b : ℕ) (s : Side) (row : BitfileRow) (c : Chunk) (v : VolumeRow) → map.get mid.sides g ≡ Some s
-      → map.get s.group.tables.bitfiles b ≡ Some row → Among c row.chunks → map.get s.group.tables.volumes c.vsn.0 ≡ Some v → WasLiveIn k g v.epoch b c
+      → map.get s.group.tables.bitfiles b ≡ Some row → IsAmong c row.chunks → map.get s.group.tables.volumes c.vsn.0 ≡ Some v → WasLiveIn k g v.epoch b c
   live_stays g b s row c v side is among there =
       run_was g v.epoch b c mid later k on two (live_was mid (kept_first mid later on) g b s row c v side is among there)
 
-pub listed_right : (j : Joint) (entries : List Entered) (k : Joint) → Opened j → NoCollision j entries → Run j entries k → ListedRight k
+pub listed_right : (j : Joint) (entries : List RunEntry) (k : Joint) → Opened j → NoCollision j entries → Run j entries k → ListedRight k
 listed_right j entries k opened apart run =
     run_listed j entries k (along j entries k opened apart run) run (unmounted_listed j (λ g s is. (opened.sides g s is).mounts))

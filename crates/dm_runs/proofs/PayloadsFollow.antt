@@ -30,7 +30,7 @@ use Rattle.dm_model.specs.Effects.{after_ending}
 use Rattle.dm_model.specs.GroupCalls.{group_needs, group_plan}
 use Rattle.dm_model.specs.GroupShare.{group_after_ending, group_doubting}
 use Rattle.dm_model.specs.Guards.{AllHold}
-use Rattle.dm_model.specs.Plan.{guards_always, guards_of, guards_of_fault, prepared, refusal_of}
+use Rattle.dm_model.specs.Plan.{guards_always, guards_of, guards_of_fault, prepared_plan, refusal_of}
 use Rattle.dm_model.specs.SideShare.{side_after_fault}
 use Rattle.dm_model.specs.Step.{after_fault, needs_of, plan_of, side_needs, side_plan, volume_plan_in}
 use Rattle.dm_model.specs.VolumeCalls.{mount_in, volume_plan}
@@ -38,7 +38,7 @@ use Rattle.dm_model.proofs.PlansOf.{group_plan-of, prepared-of}
 use Rattle.dm_model.proofs.Shares.{PaysOf, group-after_fault, side-after_fault}
 use Rattle.dm_invariant.specs.Catalogue.{LiesBefore}
 use Rattle.dm_invariant.specs.Doubts.{GroupMayLandIf, MayLandIf}
-use Rattle.dm_invariant.specs.Kept.{Kept, SideOf, deleted_in}
+use Rattle.dm_invariant.specs.Kept.{InvariantHolds, SideOf, deleted_in}
 use Rattle.dm_invariant.specs.Volumes.{VolumesKept}
 use Rattle.dm_invariant.proofs.Options.{same_row}
 use Rattle.dm_landing.proofs.CallsLanded.{PayloadLands, daemon_call_lands}
@@ -55,7 +55,7 @@ doubted_follows : (j : Joint) (g : ℕ) (s : Side) (r : GroupRecord) → SideOf 
 doubted_follows j g s r own is =
     (subst (λ o. GroupMayLandIf g j.daemon.tables.entries j.history.contents j.history.taken (deleted_in (map.get j.history.groups g)) s o) is own.doubt).follow
 
-pub doubts_follow : (j : Joint) → Kept j → DoubtsMayLand j
+pub doubts_follow : (j : Joint) → InvariantHolds j → DoubtsMayLand j
 doubts_follow j kept = record {
   daemon = λ r is.
       (subst (λ o. MayLandIf j.daemon.tables j.daemon.requests j.history.contents j.daemon.cap j.sides o) is kept.doubt).follow;
@@ -72,12 +72,12 @@ ended_tables (ending.Reservation g n b) x = refl
 ended_tables (ending.Mount g m) x = refl
 ended_tables (ending.Move g job source target) x = refl
 
-module _ (j : Joint) (kept : Kept j) (w : ℕ) where
+module _ (j : Joint) (kept : InvariantHolds j) (w : ℕ) where
   group_next : (g h : GroupId) (s : Side) (c : GroupCall) (r : GroupRecord) → map.get j.sides g.0 ≡ Some s
       → AllHold (guards_always (group_plan g s.group c) (group_needs (map.get j.workers w) j.history g s c))
-      → (prepared (group_plan g s.group c)).payload ≡ Some (payload.Group h r) → MayGroupFollow s.group.tables r
+      → (prepared_plan (group_plan g s.group c)).payload ≡ Some (payload.Group h r) → MayGroupFollow s.group.tables r
   group_next g h s c r side all is =
-      let p = prepared (group_plan g s.group c) in
+      let p = prepared_plan (group_plan g s.group c) in
       let failed = (group_call_kept j kept w g s side c).failed all true in
       let x = side_after_fault p true s in
       let there = side-after_fault g w p true j s (prepared-of g (group_plan g s.group c) (group_plan-of g s.group c)) side in
@@ -88,7 +88,7 @@ module _ (j : Joint) (kept : Kept j) (w : ℕ) where
 
   side_next : (g : GroupId) (c : GroupCall) (o : Option Side) (p : Payload) → map.get j.sides g.0 ≡ o
       → AllHold (guards_always (side_plan g c o) (side_needs (map.get j.workers w) j.history g c o))
-      → (prepared (side_plan g c o)).payload ≡ Some p → MayBeNext j p
+      → (prepared_plan (side_plan g c o)).payload ≡ Some p → MayBeNext j p
   side_next g c None p side all is = absurd (cc)
   side_next g c (Some s) (payload.Daemon r) side all is = absurd (subst (λ o. PaysOf g o) is (side_pays g c (Some s)))
   side_next g c (Some s) (payload.Group h r) side all is = λ t there.
@@ -104,33 +104,33 @@ module _ (j : Joint) (kept : Kept j) (w : ℕ) where
 
   -- ---- a call on a volume journals nothing
 
-  volume_pays : (g : GroupId) (vsn : Vsn) (o : Option Image) (x : Option MountState) (c : VolumeCall) → (prepared (volume_plan g vsn o x c)).payload ≡ None
+  volume_pays : (g : GroupId) (vsn : Vsn) (o : Option Image) (x : Option MountState) (c : VolumeCall) → (prepared_plan (volume_plan g vsn o x c)).payload ≡ None
   volume_pays g vsn None x c = refl
   volume_pays g vsn (Some image) None c = refl
   volume_pays g vsn (Some image) (Some x) (volume_call.WriteZone m place zone) = refl
   volume_pays g vsn (Some image) (Some x) (volume_call.ReadChunk m place n bytes) = refl
   volume_pays g vsn (Some image) (Some x) (volume_call.Relabel m epoch version) = refl
 
-  on_volume_pays : (g : GroupId) (vsn : Vsn) (c : VolumeCall) (o : Option Side) → (prepared (volume_plan_in g vsn c o)).payload ≡ None
+  on_volume_pays : (g : GroupId) (vsn : Vsn) (c : VolumeCall) (o : Option Side) → (prepared_plan (volume_plan_in g vsn c o)).payload ≡ None
   on_volume_pays g vsn c None = refl
   on_volume_pays g vsn c (Some s) = volume_pays g vsn (map.get s.images vsn.0) (map.get s.mounts (mount_in c)) c
 
   -- ---- any call
 
-  call_next : (c : Call) (p : Payload) → AllHold (guards_always (plan_of j c) (needs_of j w c)) → (prepared (plan_of j c)).payload ≡ Some p → MayBeNext j p
+  call_next : (c : Call) (p : Payload) → AllHold (guards_always (plan_of j c) (needs_of j w c)) → (prepared_plan (plan_of j c)).payload ≡ Some p → MayBeNext j p
   call_next (call.Daemon c) p all is =
       daemon_next (daemon_plan j.daemon c).ends p
       (subst (λ o. PayloadLands (after_ending w (daemon_plan j.daemon c).ends j) o) is (daemon_call_lands j kept w c all))
   call_next (call.Group g c) p all is = side_next g c (map.get j.sides g.0) p refl all is
   call_next (call.Volume g vsn c) p all is = let none = on_volume_pays g vsn c (map.get j.sides g.0) in absurd (cc)
 
-pub calls_follow : (j : Joint) → Kept j → CallsMayJournal j
+pub calls_follow : (j : Joint) → InvariantHolds j → CallsMayJournal j
 calls_follow j kept w c p legal is =
     let q = plan_of j c in
     let n = needs_of j w c in
     call_next j kept w c p (always_hold q n (refusal_of q) (all_hold (guards_of (refusal_of q) q n) legal)) is
 
-pub faults_follow : (j : Joint) → Kept j → FaultsMayJournal j
+pub faults_follow : (j : Joint) → InvariantHolds j → FaultsMayJournal j
 faults_follow j kept w c p legal is =
     let q = plan_of j c in
     let n = needs_of j w c in
@@ -173,5 +173,5 @@ group_may_be j g s own = record {
       };
 }
 
-pub tables_may_be : (j : Joint) → Kept j → TablesMayBe j
+pub tables_may_be : (j : Joint) → InvariantHolds j → TablesMayBe j
 tables_may_be j kept = record { daemon = kept.files.state; groups = λ g s is. group_may_be j g s (kept.sides g s is) }

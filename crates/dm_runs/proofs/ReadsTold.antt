@@ -11,9 +11,9 @@ use Rattle.dm_model.specs.declared.state.Joint.{Joint}
 use Rattle.dm_model.specs.declared.state.Origin.{Origin}
 use Rattle.dm_model.specs.declared.state.Origin.TheVariants as origin
 use Rattle.dm_model.specs.GroupCalls.{part_of}
-use Rattle.dm_model.specs.Hashed.{SumsTellApart, hashed, hashed_by, hashed_by_volume, hashed_of_chunk, hashed_of_read, hashed_under, parts_stored}
-use Rattle.dm_model.specs.Step.{Entered, Run, state_after, step}
-use Rattle.dm_invariant.specs.Kept.{Kept}
+use Rattle.dm_model.specs.Hashed.{SumsTellApart, hashed_in_run, hashed_by_event, hashed_by_volume, hashed_of_chunk, hashed_of_read, hashed_under, parts_stored}
+use Rattle.dm_model.specs.Step.{RunEntry, Run, state_after, step}
+use Rattle.dm_invariant.specs.Kept.{InvariantHolds}
 use Rattle.dm_invariant.specs.Mounts.{MayRead}
 use Rattle.dm_invariant.specs.Moves.{ReadPart}
 use Rattle.dm_invariant.specs.Opened.{Opened}
@@ -33,7 +33,7 @@ use Rattle.dm_runs.proofs.SumsTell.{event_tells, more_lists, one_is, opened_in, 
 -- ---- the invariant, and the parts, along a run
 
 abbrev Both : List (List ℕ) → Joint → Type 0
-Both lists j = Kept j × Summed lists j
+Both lists j = InvariantHolds j × Summed lists j
 
 both_keep : (lists : List (List ℕ)) → SumsTellApart lists → EachKeeps (HashesIn lists) (Both lists)
 both_keep lists apart j k w e a hashes both is = (
@@ -42,22 +42,22 @@ both_keep lists apart j k w e a hashes both is = (
 )
 
 -- what the entries of a run hash, with what comes after them
-hashes_along : (lists : List (List ℕ)) (j : Joint) (entries more : List Entered)
-    → ((x : List ℕ) → Contains (hashed j (entries ++ more)) x → Contains lists x) → Along (HashesIn lists) j entries
+hashes_along : (lists : List (List ℕ)) (j : Joint) (entries more : List RunEntry)
+    → ((x : List ℕ) → Contains (hashed_in_run j (entries ++ more)) x → Contains lists x) → Along (HashesIn lists) j entries
 hashes_along lists j [] more hashes = tt
 hashes_along lists j (e ∷ es) more hashes = (
-  λ x has. hashes x (Contains-append_left (hashed_by j e.event) _ x has),
-  hashes_along lists (state_after j (step j e.worker e.event)) es more (λ x has. hashes x (Contains-append_right (hashed_by j e.event) _ x has)),
+  λ x has. hashes x (Contains-append_left (hashed_by_event j e.event) _ x has),
+  hashes_along lists (state_after j (step j e.worker e.event)) es more (λ x has. hashes x (Contains-append_right (hashed_by_event j e.event) _ x has)),
 )
 
 -- what the entry behind them hashes
-last_hashes : (j : Joint) (entries : List Entered) (k : Joint) (e : Entered) → Run j entries k → (x : List ℕ) → Contains (hashed_by k e.event) x
-    → Contains (hashed j (entries ++ e ∷ [])) x
+last_hashes : (j : Joint) (entries : List RunEntry) (k : Joint) (e : RunEntry) → Run j entries k → (x : List ℕ) → Contains (hashed_by_event k e.event) x
+    → Contains (hashed_in_run j (entries ++ e ∷ [])) x
 last_hashes j [] k e run x has =
-    Contains-append_left (hashed_by j e.event) _ x (subst (λ i. Contains (hashed_by i e.event) x) (sym run) has)
+    Contains-append_left (hashed_by_event j e.event) _ x (subst (λ i. Contains (hashed_by_event i e.event) x) (sym run) has)
 last_hashes j (d ∷ ds) k e run x has =
-    Contains-append_right (hashed_by j d.event) _ x
-    (subst (λ o. Contains (hashed (state_after j o) (ds ++ e ∷ [])) x) (sym run.1) (last_hashes run.0 ds k e run.2 x has))
+    Contains-append_right (hashed_by_event j d.event) _ x
+    (subst (λ o. Contains (hashed_in_run (state_after j o) (ds ++ e ∷ [])) x) (sym run.1) (last_hashes run.0 ds k e run.2 x has))
 
 -- ---- one read
 
@@ -107,17 +107,17 @@ two_apart lists bytes part apart one two =
       | inr there ↦ subst (λ y. Contains lists y) (one_is part x there) two
     ]) apart
 
-pub chunks_read_right : (j : Joint) (entries : List Entered) (k : Joint) → Opened j → Run j entries k → ChunksReadRight j entries k
+pub chunks_read_right : (j : Joint) (entries : List RunEntry) (k : Joint) → Opened j → Run j entries k → ChunksReadRight j entries k
 chunks_read_right j entries k opened run w m g vsn b c bytes s x after side mount for is apart =
     let e = read_entry w g vsn m c bytes in
-    let lists = parts_stored j ++ hashed j (entries ++ e ∷ []) in
+    let lists = parts_stored j ++ hashed_in_run j (entries ++ e ∷ []) in
     let along = hashes_along lists j entries (e ∷ []) (λ y has. Contains-append_right (parts_stored j) _ y has) in
     let first = more_lists (parts_stored j) lists (λ y has. Contains-append_left (parts_stored j) _ y has) j (opened_in j opened) in
     let both = run_keeps (HashesIn lists) (Both lists) (both_keep lists apart) j entries k along (opened_kept j opened, first) run in
     at lists apart both (λ y has. Contains-append_right (parts_stored j) _ y (last_hashes j entries k e run y has)) c.sum refl
   where
     at : (lists : List (List ℕ)) → SumsTellApart lists → Both lists k
-        → ((y : List ℕ) → Contains (hashed_by k (read_entry w g vsn m c bytes).event) y → Contains lists y)
+        → ((y : List ℕ) → Contains (hashed_by_event k (read_entry w g vsn m c bytes).event) y → Contains lists y)
         → (sum : Option (List ℕ)) → c.sum ≡ sum → ReadPart k.history.contents b.0 c bytes ⊎ OtherSum c bytes
     at lists apart both hashes None none =
         let known = chunks_right k both.0 w m g vsn b c bytes s x after side mount for is in

@@ -4,8 +4,8 @@ use Rattle.std.specs.List.{AllByRecursion}
 use Rattle.dm_model.specs.declared.answer.Answer.{Answer}
 use Rattle.dm_model.specs.declared.call.Event.{Event}
 use Rattle.dm_model.specs.declared.state.Joint.{Joint}
-use Rattle.dm_model.specs.Step.{Entered, Run, Stepped, state_after, step}
-use Rattle.dm_invariant.specs.Kept.{Kept}
+use Rattle.dm_model.specs.Step.{RunEntry, Run, Stepped, state_after, step}
+use Rattle.dm_invariant.specs.Kept.{InvariantHolds}
 use Rattle.dm_shown.specs.Along.{KeptAlong}
 
 -- each event of which P holds keeps Q
@@ -13,11 +13,11 @@ abbrev pub EachKeeps : (Joint → Event → Type 0) → (Joint → Type 0) → T
 EachKeeps P Q = (j k : Joint) (w : ℕ) (e : Event) (a : Answer) → P j e → Q j → step j w e ≡ Stepped k a → Q k
 
 -- P holds of each event of a run, in the state before it
-abbrev pub Along : (Joint → Event → Type 0) → Joint → List Entered → Type 0
+abbrev pub Along : (Joint → Event → Type 0) → Joint → List RunEntry → Type 0
 Along P j [] = Unit {0}
 Along P j (e ∷ es) = P j e.event × Along P (state_after j (step j e.worker e.event)) es
 
-pub run_keeps : (P : Joint → Event → Type 0) (Q : Joint → Type 0) → EachKeeps P Q → (j : Joint) (entries : List Entered) (k : Joint)
+pub run_keeps : (P : Joint → Event → Type 0) (Q : Joint → Type 0) → EachKeeps P Q → (j : Joint) (entries : List RunEntry) (k : Joint)
     → Along P j entries → Q j → Run j entries k → Q k
 run_keeps P Q keeps j [] k along held run = subst Q run held
 run_keeps P Q keeps j (e ∷ es) k along held run =
@@ -25,12 +25,12 @@ run_keeps P Q keeps j (e ∷ es) k along held run =
     (keeps j run.0 e.worker e.event e.answer along.0 held run.1) run.2
 
 -- what holds of events whatever the state is, holds along a run
-pub along_all : (P : Event → Type 0) (j : Joint) (entries : List Entered) → AllByRecursion (λ e. P e.event) entries → Along (λ i e. P e) j entries
+pub along_all : (P : Event → Type 0) (j : Joint) (entries : List RunEntry) → AllByRecursion (λ e. P e.event) entries → Along (λ i e. P e) j entries
 along_all P j [] all = tt
 along_all P j (e ∷ es) all = (all.0, along_all P (state_after j (step j e.worker e.event)) es all.1)
 
 -- where each event keeps the invariant, it holds in each state of a run
-pub kept_along : (P : Joint → Event → Type 0) → EachKeeps P Kept → (j : Joint) (entries : List Entered) (k : Joint) → Along P j entries → Kept j
+pub kept_along : (P : Joint → Event → Type 0) → EachKeeps P InvariantHolds → (j : Joint) (entries : List RunEntry) (k : Joint) → Along P j entries → InvariantHolds j
     → Run j entries k → KeptAlong j entries
 kept_along P keeps j [] k along kept run = kept
 kept_along P keeps j (e ∷ es) k along kept run = (

@@ -45,13 +45,13 @@ use Rattle.dm_model.specs.DaemonCalls.{attributes, begin_put, begin_recall, begi
 use Rattle.dm_model.specs.Effects.{after_ending, at_each, contents_with, groups_of_component, groups_of_ending, groups_of_mark, groups_of_opening, groups_of_payload}
 use Rattle.dm_model.specs.Files.{File, file_at}
 use Rattle.dm_model.specs.Guards.{AllHold}
-use Rattle.dm_model.specs.Hashed.{hashed_by, hashed_by_group}
-use Rattle.dm_model.specs.Plan.{Plan, guards_always, guards_of, guards_of_fault, illegal_call, illegal_fault, prepared, refusal_of}
+use Rattle.dm_model.specs.Hashed.{hashed_by_event, hashed_by_group}
+use Rattle.dm_model.specs.Plan.{Plan, guards_always, guards_of, guards_of_fault, illegal_call, illegal_fault, prepared_plan, refusal_of}
 use Rattle.dm_model.specs.SideShare.{side_after_ending, side_after_failed_mark, side_after_mark, side_after_opening, side_after_payload, side_after_stop, side_doubting, side_without_doubt}
-use Rattle.dm_model.specs.Step.{Stepped, after_call, after_fault, after_landing, after_stop, daemon_doubt, group_doubt, landed_doubt, landed_in, looked_in, needs_of, side_needs, side_plan, step, volume_plan_in}
+use Rattle.dm_model.specs.Step.{Stepped, after_call, after_fault, after_landing, after_stop, daemon_doubt, group_doubt, doubt_outcome, landing_outcome_in, look_outcome_in, needs_of, side_needs, side_plan, step, volume_plan_in}
 use Rattle.dm_model.specs.VolumeCalls.{mount_in, mounted_plan, volume_plan}
 use Rattle.dm_invariant.specs.Doubts.{MayLandIf}
-use Rattle.dm_invariant.specs.Kept.{Kept}
+use Rattle.dm_invariant.specs.Kept.{InvariantHolds}
 use Rattle.dm_invariant.proofs.LookUps.{beside_free}
 use Rattle.dm_landing.proofs.CallsLanded.{PayloadLands, daemon_call_lands}
 use Rattle.dm_landing.proofs.FilesBegun.{content_free}
@@ -71,7 +71,7 @@ Summed lists j = EachRow j.sides (λ g s. SideSummed lists j.history.contents s)
 
 -- what an event hashes is among them
 abbrev pub HashesIn : List (List ℕ) → Joint → Event → Type 0
-HashesIn lists j e = (x : List ℕ) → Contains (hashed_by j e) x → Contains lists x
+HashesIn lists j e = (x : List ℕ) → Contains (hashed_by_event j e) x → Contains lists x
 
 -- ---- the sides after an event, over the contents before it
 
@@ -116,7 +116,7 @@ grown contents b None free = λ q bytes at. at
 grown contents b (Some f) free = λ q bytes at. beside_free numbers contents b q _ bytes free at
 
 -- a record that may follow takes no content away
-record_grows : (j : Joint) → Kept j → (time : ℕ) (s : DaemonStep) → j.daemon.tables.time.0 ≤ time → MayStep j.daemon.tables time s
+record_grows : (j : Joint) → InvariantHolds j → (time : ℕ) (s : DaemonStep) → j.daemon.tables.time.0 ≤ time → MayStep j.daemon.tables time s
     → EachRow j.history.contents (λ q bytes. map.get (contents_after j.daemon.tables j.history.contents s) q ≡ Some bytes)
 record_grows j kept time (BeginPut path b groups) on may =
     grown j.history.contents b.0 _
@@ -141,13 +141,13 @@ PayloadFollows j None = Unit {0}
 PayloadFollows j (Some (payload.Daemon r)) = MayFollow j.daemon.tables r
 PayloadFollows j (Some (payload.Group g r)) = Unit {0}
 
-payload_grows : (j : Joint) → Kept j → (p : Option Payload) → PayloadFollows j p
+payload_grows : (j : Joint) → InvariantHolds j → (p : Option Payload) → PayloadFollows j p
     → EachRow j.history.contents (λ q bytes. map.get (files_paid p (files_of j)).1 q ≡ Some bytes)
 payload_grows j kept None follow = λ q bytes at. at
 payload_grows j kept (Some (payload.Daemon r)) follow = record_grows j kept r.time.0 r.step follow.time follow.step
 payload_grows j kept (Some (payload.Group g r)) follow = λ q bytes at. at
 
-module _ (lists : List (List ℕ)) (j : Joint) (kept : Kept j) (summed : Summed lists j) where
+module _ (lists : List (List ℕ)) (j : Joint) (kept : InvariantHolds j) (summed : Summed lists j) where
   abbrev before : Numbered (List ℕ)
   before = j.history.contents
 
@@ -276,7 +276,7 @@ module _ (d : Daemon) where
   daemon_makes daemon_call.List = tt
 
 -- a plan that makes requests alone still does with the tests of its refusals made
-requests_prepared : (lists : List (List ℕ)) (contents : Numbered (List ℕ)) (p : Plan) → MakesRequests p.opens → OpeningIn lists contents (prepared p).opens
+requests_prepared : (lists : List (List ℕ)) (contents : Numbered (List ℕ)) (p : Plan) → MakesRequests p.opens → OpeningIn lists contents (prepared_plan p).opens
 requests_prepared lists contents p makes = opens_if lists contents (refusal_of p) p.opens (requests_in lists contents p.opens makes)
 
 -- ---- events
@@ -296,12 +296,12 @@ mapped_is : {X Y : Type 0} (f : X → Y) (o : Option X) (y : Y) → option_map f
 mapped_is f None y is = absurd (cc)
 mapped_is f (Some x) y is = (x, refl, cc)
 
-landed_is : (j k : Joint) (c : Component) (o : Option Payload) (a : Answer) → landed_doubt j c o ≡ Stepped k a
+landed_is : (j k : Joint) (c : Component) (o : Option Payload) (a : Answer) → doubt_outcome j c o ≡ Stepped k a
     → (p : Payload) × (o ≡ Some p) × (after_landing c p j ≡ k)
 landed_is j k c None a is = absurd (cc)
 landed_is j k c (Some p) a is = (p, refl, cc)
 
-module _ (lists : List (List ℕ)) (j : Joint) (kept : Kept j) (summed : Summed lists j) (w : ℕ) where
+module _ (lists : List (List ℕ)) (j : Joint) (kept : InvariantHolds j) (summed : Summed lists j) (w : ℕ) where
   -- what a call on a volume journals and makes is nothing
   mounted_in : (g : GroupId) (vsn : Vsn) (image : Image) (x : MountState) (c : VolumeCall) → PlanIn lists j.history.contents (mounted_plan g vsn image x c)
   mounted_in g vsn image x (volume_call.WriteZone m place zone) = record { payload = tt; opens = tt }
@@ -335,27 +335,27 @@ module _ (lists : List (List ℕ)) (j : Joint) (kept : Kept j) (summed : Summed 
   call_in (call.Daemon c) k a hashed is =
       let p = daemon_plan j.daemon c in
       let n = daemon_needs j.sides (map.get j.workers w) j.history j.daemon c in
-      let o = outcome_is (illegal_call p n) (after_call w (prepared p) j) k (prepared p).answer a is in
+      let o = outcome_is (illegal_call p n) (after_call w (prepared_plan p) j) k (prepared_plan p).answer a is in
       let lands = daemon_call_lands j kept w c (always_hold p n (refusal_of p) (all_hold (guards_of (refusal_of p) p n) o.0)) in
       subst (Summed lists) o.1
-      (called_in lists j kept summed w (prepared p) (lands_in lists j.history.contents (after_ending w p.ends j) (prepared p).payload lands)
-      (requests_prepared lists j.history.contents p (daemon_makes j.daemon c)) (daemon_follows (prepared p) (prepared p).payload lands))
+      (called_in lists j kept summed w (prepared_plan p) (lands_in lists j.history.contents (after_ending w p.ends j) (prepared_plan p).payload lands)
+      (requests_prepared lists j.history.contents p (daemon_makes j.daemon c)) (daemon_follows (prepared_plan p) (prepared_plan p).payload lands))
   call_in (call.Group g c) k a hashed is =
       let p = side_plan g c (map.get j.sides g.0) in
       let n = side_needs (map.get j.workers w) j.history g c (map.get j.sides g.0) in
-      let o = outcome_is (illegal_call p n) (after_call w (prepared p) j) k (prepared p).answer a is in
+      let o = outcome_is (illegal_call p n) (after_call w (prepared_plan p) j) k (prepared_plan p).answer a is in
       let i = group_in g c (map.get j.sides g.0) refl hashed (always_hold p n (refusal_of p) (all_hold (guards_of (refusal_of p) p n) o.0)) in
       subst (Summed lists) o.1
-      (called_in lists j kept summed w (prepared p) (payload_prepared lists j.history.contents p i) (opens_prepared lists j.history.contents p i)
-      (of_group_follows j g (prepared p).payload (side_pays g c (map.get j.sides g.0))))
+      (called_in lists j kept summed w (prepared_plan p) (payload_prepared lists j.history.contents p i) (opens_prepared lists j.history.contents p i)
+      (of_group_follows j g (prepared_plan p).payload (side_pays g c (map.get j.sides g.0))))
   call_in (call.Volume g vsn c) k a hashed is =
       let p = volume_plan_in g vsn c (map.get j.sides g.0) in
       let n = needs_of j w (call.Volume g vsn c) in
-      let o = outcome_is (illegal_call p n) (after_call w (prepared p) j) k (prepared p).answer a is in
+      let o = outcome_is (illegal_call p n) (after_call w (prepared_plan p) j) k (prepared_plan p).answer a is in
       let i = on_volume_in g vsn c (map.get j.sides g.0) in
       subst (Summed lists) o.1
-      (called_in lists j kept summed w (prepared p) (payload_prepared lists j.history.contents p i) (opens_prepared lists j.history.contents p i)
-      (of_group_follows j g (prepared p).payload (volume_pays g vsn c (map.get j.sides g.0))))
+      (called_in lists j kept summed w (prepared_plan p) (payload_prepared lists j.history.contents p i) (opens_prepared lists j.history.contents p i)
+      (of_group_follows j g (prepared_plan p).payload (volume_pays g vsn c (map.get j.sides g.0))))
 
   -- one that failed
   fault_in : (c : Call) (healed checkpointed : Bool) (k : Joint) (a : Answer) → HashesIn lists j (event.Fault c healed checkpointed)
@@ -364,28 +364,28 @@ module _ (lists : List (List ℕ)) (j : Joint) (kept : Kept j) (summed : Summed 
       let p = daemon_plan j.daemon c in
       let n = daemon_needs j.sides (map.get j.workers w) j.history j.daemon c in
       let far = healed && checkpointed in
-      let o = outcome_is (illegal_fault p n) (after_fault w (prepared p) far j) k _ a is in
+      let o = outcome_is (illegal_fault p n) (after_fault w (prepared_plan p) far j) k _ a is in
       let lands = daemon_call_lands j kept w c (front_holds (guards_always p n) _ (all_hold (guards_of_fault p n) o.0)) in
       subst (Summed lists) o.1
-      (faulted_in lists j kept summed w (prepared p) far (lands_in lists j.history.contents (after_ending w p.ends j) (prepared p).payload lands))
+      (faulted_in lists j kept summed w (prepared_plan p) far (lands_in lists j.history.contents (after_ending w p.ends j) (prepared_plan p).payload lands))
   fault_in (call.Group g c) healed checkpointed k a hashed is =
       let p = side_plan g c (map.get j.sides g.0) in
       let n = side_needs (map.get j.workers w) j.history g c (map.get j.sides g.0) in
       let far = healed && checkpointed in
-      let o = outcome_is (illegal_fault p n) (after_fault w (prepared p) far j) k _ a is in
+      let o = outcome_is (illegal_fault p n) (after_fault w (prepared_plan p) far j) k _ a is in
       let i = group_in g c (map.get j.sides g.0) refl hashed (front_holds (guards_always p n) _ (all_hold (guards_of_fault p n) o.0)) in
-      subst (Summed lists) o.1 (faulted_in lists j kept summed w (prepared p) far (payload_prepared lists j.history.contents p i))
+      subst (Summed lists) o.1 (faulted_in lists j kept summed w (prepared_plan p) far (payload_prepared lists j.history.contents p i))
   fault_in (call.Volume g vsn c) healed checkpointed k a hashed is =
       let p = volume_plan_in g vsn c (map.get j.sides g.0) in
       let n = needs_of j w (call.Volume g vsn c) in
       let far = healed && checkpointed in
-      let o = outcome_is (illegal_fault p n) (after_fault w (prepared p) far j) k _ a is in
+      let o = outcome_is (illegal_fault p n) (after_fault w (prepared_plan p) far j) k _ a is in
       subst (Summed lists) o.1
-      (faulted_in lists j kept summed w (prepared p) far
+      (faulted_in lists j kept summed w (prepared_plan p) far
       (payload_prepared lists j.history.contents p (on_volume_in g vsn c (map.get j.sides g.0))))
 
   -- a step in doubt that landed
-  doubt_in : (g : GroupId) (k : Joint) (a : Answer) (o : Option Side) → map.get j.sides g.0 ≡ o → landed_in j g o ≡ Stepped k a → Summed lists k
+  doubt_in : (g : GroupId) (k : Joint) (a : Answer) (o : Option Side) → map.get j.sides g.0 ≡ o → landing_outcome_in j g o ≡ Stepped k a → Summed lists k
   doubt_in g k a None side is = absurd (cc)
   doubt_in g k a (Some s) side is =
       let l = landed_is j k (component.Group g) (group_doubt g s) a is in
@@ -404,7 +404,7 @@ module _ (lists : List (List ℕ)) (j : Joint) (kept : Kept j) (summed : Summed 
       (subst (λ p. Summed lists (after_landing component.Daemon p j)) r.2
       (landed_in_lists lists j kept summed component.Daemon (payload.Daemon r.0) tt may.follow))
 
-  looked_in_lists : (k : Joint) (o : Option Side) (a : Answer) → looked_in j o ≡ Stepped k a → Summed lists k
+  looked_in_lists : (k : Joint) (o : Option Side) (a : Answer) → look_outcome_in j o ≡ Stepped k a → Summed lists k
   looked_in_lists k None a is = absurd (cc)
   looked_in_lists k (Some s) a is = let same : j ≡ k = cc in subst (Summed lists) same summed
 

@@ -21,7 +21,7 @@ use Rattle.dm_model.specs.declared.state.MountState.{MountState}
 use Rattle.dm_model.specs.declared.state.Moving.{Moving}
 use Rattle.dm_model.specs.GroupCalls.{is_moved, part_of, same_sum, summed_chunks, was_moved, with_sums}
 use Rattle.dm_model.specs.Hashed.{parts_of_piece}
-use Rattle.dm_invariant.specs.Among.{Among}
+use Rattle.dm_invariant.specs.Among.{IsAmong}
 use Rattle.dm_invariant.proofs.Lists.{among_either, mapped_among}
 use Rattle.dm_runs.proofs.Contained.{contains_if, contains_mapped, each_among, filter_among, flat_among}
 use Rattle.sha2.specs.Sha256.{sha256}
@@ -29,7 +29,7 @@ use Rattle.sha2.specs.Sha256.{sha256}
 -- ---- commits
 
 -- chunks are planned without sums
-no_sum : (version chunk count : ℕ) (p : Piece) (offset left place : ℕ) (c : Chunk) → Among c (chunks_at version chunk count p offset left place)
+no_sum : (version chunk count : ℕ) (p : Piece) (offset left place : ℕ) (c : Chunk) → IsAmong c (chunks_at version chunk count p offset left place)
     → c.sum ≡ None
 unfolding chunks_at
 no_sum version chunk zero p offset left place c among = absurd among
@@ -40,11 +40,11 @@ no_sum version chunk (suc count) p offset left place c (inr later) =
 -- a chunk with a sum is one without, at the same place of the bitfile
 record Base (cs : List Chunk) (c : Chunk) : Type 0 where
   base : Chunk
-  among : Among base cs
+  among : IsAmong base cs
   offset : base.offset ≡ c.offset
   len : base.len ≡ c.len
 
-summed_base : (cs : List Chunk) (sums : List (List ℕ)) (c : Chunk) → Among c (with_sums cs sums) → Base cs c
+summed_base : (cs : List Chunk) (sums : List (List ℕ)) (c : Chunk) → IsAmong c (with_sums cs sums) → Base cs c
 summed_base [] sums c among = absurd among
 summed_base (d ∷ ds) [] c (inl same) =
     record { base = d; among = inl refl; offset = ap (λ (x : Chunk). x.offset) (sym same); len = ap (λ (x : Chunk). x.len) (sym same) }
@@ -63,9 +63,9 @@ based_part chunk bytes p c is b =
     (contains_mapped (λ (d : Chunk). part_of bytes d.offset d.len) b.base (chunks_of chunk p) b.among))
 
 piece_part : (chunk : ℕ) (bytes : List ℕ) (p : Piece) (ps : List Piece) (sums : List (List ℕ)) (c : Chunk)
-    → ((more : List (List ℕ)) → Among c (summed_chunks chunk ps more) → Contains (flat_map (parts_of_piece chunk bytes) ps) (part_of bytes c.offset c.len))
+    → ((more : List (List ℕ)) → IsAmong c (summed_chunks chunk ps more) → Contains (flat_map (parts_of_piece chunk bytes) ps) (part_of bytes c.offset c.len))
     → IsSome c.sum → (v : Bool) → has_sum p.version ≡ v
-    → Among c (cond v (with_sums (chunks_of chunk p) sums ++ summed_chunks chunk ps (drop (length (chunks_of chunk p)) sums))
+    → IsAmong c (cond v (with_sums (chunks_of chunk p) sums ++ summed_chunks chunk ps (drop (length (chunks_of chunk p)) sums))
     (chunks_of chunk p ++ summed_chunks chunk ps sums))
     → Contains (parts_of_piece chunk bytes p ++ flat_map (parts_of_piece chunk bytes) ps) (part_of bytes c.offset c.len)
 piece_part chunk bytes p ps sums c rest has true is among =
@@ -84,7 +84,7 @@ piece_part chunk bytes p ps sums c rest has false is among =
     ]
 
 -- each chunk of a commit that has a sum is a part that is hashed
-pub summed_part : (chunk : ℕ) (bytes : List ℕ) (ps : List Piece) (sums : List (List ℕ)) (c : Chunk) → Among c (summed_chunks chunk ps sums)
+pub summed_part : (chunk : ℕ) (bytes : List ℕ) (ps : List Piece) (sums : List (List ℕ)) (c : Chunk) → IsAmong c (summed_chunks chunk ps sums)
     → IsSome c.sum → Contains (flat_map (parts_of_piece chunk bytes) ps) (part_of bytes c.offset c.len)
 summed_part chunk bytes [] sums c among has = absurd among
 summed_part chunk bytes (p ∷ ps) sums c among has =
@@ -125,23 +125,23 @@ was_read x sum o p s t source target e =
 pub record LiveIn (bitfiles : Numbered BitfileRow) (l : LiveChunk) : Type 0 where
   pub row : BitfileRow
   pub is : map.get bitfiles l.bfid.0 ≡ Some row
-  pub among : Among l.chunk row.chunks
+  pub among : IsAmong l.chunk row.chunks
 
 front_one : (b : Bool) (x y : LiveChunk) → (cond b x y ≡ x) ⊎ (cond b x y ≡ y)
 front_one true x y = inl refl
 front_one false x y = inr refl
 
 least_front : (x : LiveChunk) (xs : List LiveChunk) (l : LiveChunk) (o : Option LiveChunk)
-    → ((y : LiveChunk) → o ≡ Some y → Among y xs) → Some (further_in_front x o) ≡ Some l → (l ≡ x) ⊎ Among l xs
+    → ((y : LiveChunk) → o ≡ Some y → IsAmong y xs) → Some (further_in_front x o) ≡ Some l → (l ≡ x) ⊎ IsAmong l xs
 least_front x xs l None rest e = let same : x ≡ l = cc in inl (sym same)
 least_front x xs l (Some y) rest e =
     let same : further_in_front x (Some y) ≡ l = cc in
     elim (front_one _ x y) [
       | inl first ↦ inl (sym same ∙ first)
-      | inr later ↦ inr (subst (λ z. Among z xs) (sym later ∙ same) (rest y refl))
+      | inr later ↦ inr (subst (λ z. IsAmong z xs) (sym later ∙ same) (rest y refl))
     ]
 
-least_among : (xs : List LiveChunk) (l : LiveChunk) → least_placed xs ≡ Some l → Among l xs
+least_among : (xs : List LiveChunk) (l : LiveChunk) → least_placed xs ≡ Some l → IsAmong l xs
 least_among [] l is = cc
 least_among (x ∷ xs) l is = least_front x xs l (least_placed xs) (λ y at. least_among xs y at) is
 

@@ -31,7 +31,7 @@ use Rattle.dm_model.specs.declared.state.Worker.{Worker}
 use Rattle.dm_model.specs.GroupCalls.{abort, add_volume, commit, delete_of, drop_move, free, free_of, group_needs, group_plan, group_time, merge_first, merge_to, mount_chunk, mount_chunk_of, mount_piece, mount_piece_of, move_done, move_done_needs, part_of, piece_at, reuse, reuse_first, unmount}
 use Rattle.dm_model.specs.Guards.{AllHold}
 use Rattle.dm_model.specs.Hashed.{bytes_read, hashed_by_commit, hashed_by_move, hashed_in_group, hashed_of_content}
-use Rattle.dm_model.specs.Plan.{Plan, guards_always, if_accepted, prepared, refusal_of}
+use Rattle.dm_model.specs.Plan.{Plan, guards_always, if_accepted, prepared_plan, refusal_of}
 use Rattle.dm_model.specs.Volumes.{usage_of}
 use Rattle.dm_invariant.specs.Kept.{SideOf}
 use Rattle.dm_invariant.specs.Moves.{ReadPart, ReadRight}
@@ -57,11 +57,11 @@ opens_if lists contents (Some refusal) x part = tt
 
 -- with the tests of its refusals made
 pub payload_prepared : (lists : List (List ℕ)) (contents : Numbered (List ℕ)) (p : Plan) → PlanIn lists contents p
-    → PayloadIn lists contents (prepared p).payload
+    → PayloadIn lists contents (prepared_plan p).payload
 payload_prepared lists contents p i = payload_if lists contents (refusal_of p) p.payload i.payload
 
 pub opens_prepared : (lists : List (List ℕ)) (contents : Numbered (List ℕ)) (p : Plan) → PlanIn lists contents p
-    → OpeningIn lists contents (prepared p).opens
+    → OpeningIn lists contents (prepared_plan p).opens
 opens_prepared lists contents p i = opens_if lists contents (refusal_of p) p.opens i.opens
 
 -- bytes that were read are among what a move hashes

@@ -30,7 +30,7 @@ use Rattle.dm_model.specs.declared.state.Origin.TheVariants as origin
 use Rattle.dm_model.specs.declared.state.Side.{Side}
 use Rattle.dm_model.specs.GroupCalls.{part_of}
 use Rattle.dm_model.specs.SideShare.{side_after_ending, side_after_failed_mark, side_after_mark, side_after_opening, side_after_payload, side_after_stop, side_doubting, side_without_doubt}
-use Rattle.dm_invariant.specs.Among.{Among}
+use Rattle.dm_invariant.specs.Among.{IsAmong}
 use Rattle.dm_invariant.proofs.Lists.{mapped_among}
 
 -- the part of its content that a chunk is
@@ -53,7 +53,7 @@ OriginIn lists contents (origin.Reuse next_epoch version reading) = Unit {0}
 
 abbrev pub StepIn : List (List ℕ) → Numbered (List ℕ) → GroupStep → Type 0
 StepIn lists contents (step.Volume vsn slot version size) = Unit {0}
-StepIn lists contents (step.Commit b len chunks) = (c : Chunk) → Among c chunks → PartIn lists contents b.0 c
+StepIn lists contents (step.Commit b len chunks) = (c : Chunk) → IsAmong c chunks → PartIn lists contents b.0 c
 StepIn lists contents (step.Delete b) = Unit {0}
 StepIn lists contents (step.Move b from to) = PartIn lists contents b.0 to
 StepIn lists contents (step.Free vsn) = Unit {0}
@@ -79,7 +79,7 @@ OpeningIn lists contents (opening.Reuse g m epoch reusing reading) = Unit {0}
 
 -- a row of a bitfile
 abbrev pub RowIn : List (List ℕ) → Numbered (List ℕ) → ℕ → BitfileRow → Type 0
-RowIn lists contents b row = (c : Chunk) → Among c row.chunks → PartIn lists contents b c
+RowIn lists contents b row = (c : Chunk) → IsAmong c row.chunks → PartIn lists contents b c
 
 pub record SideSummed (lists : List (List ℕ)) (contents : Numbered (List ℕ)) (s : Side) : Type 0 where
   pub rows : EachRow s.group.tables.bitfiles (RowIn lists contents)

@@ -24,11 +24,11 @@ use Rattle.dm_model.specs.declared.state.Origin.{Origin}
 use Rattle.dm_model.specs.declared.state.Origin.TheVariants as origin
 use Rattle.dm_model.specs.declared.state.Side.{Side}
 use Rattle.dm_model.specs.GroupCalls.{part_of}
-use Rattle.dm_model.specs.Hashed.{NoCollision, SumsTellApart, hashed, hashed_by, hashed_by_volume, hashed_of_read, hashed_on_volume, hashed_under, parts_of_content, parts_on, parts_stored}
-use Rattle.dm_model.specs.Step.{Entered, Run, state_after, step}
+use Rattle.dm_model.specs.Hashed.{NoCollision, SumsTellApart, hashed_in_run, hashed_by_event, hashed_by_volume, hashed_of_read, hashed_on_volume, hashed_under, parts_of_content, parts_on, parts_stored}
+use Rattle.dm_model.specs.Step.{RunEntry, Run, state_after, step}
 use Rattle.dm_group_effects.specs.OnVolume.{ReadTellsApart, ReadsTellApart, parts_by_volume, parts_of_origin, parts_on_volume, parts_under}
-use Rattle.dm_invariant.specs.Among.{Among}
-use Rattle.dm_invariant.specs.Kept.{Kept}
+use Rattle.dm_invariant.specs.Among.{IsAmong}
+use Rattle.dm_invariant.specs.Kept.{InvariantHolds}
 use Rattle.dm_invariant.specs.Opened.{Opened}
 use Rattle.dm_invariant.proofs.LookUps.{each_of_empty}
 use Rattle.dm_stops.proofs.OpenedKept.{opened_kept}
@@ -116,12 +116,12 @@ module _ (lists : List (List ℕ)) (apart : SumsTellApart lists) (contents : Num
 -- an event
 pub event_tells : (lists : List (List ℕ)) → SumsTellApart lists → (j : Joint) → Summed lists j → (e : Event) → HashesIn lists j e → ReadTellsApart j e
 event_tells lists apart j summed (event.Call (call.Daemon c)) hashes = tell_none
-event_tells lists apart j summed (event.Call (call.Group g c)) hashes = tell_fewer lists (hashed_by j (event.Call (call.Group g c))) hashes apart
+event_tells lists apart j summed (event.Call (call.Group g c)) hashes = tell_fewer lists (hashed_by_event j (event.Call (call.Group g c))) hashes apart
 event_tells lists apart j summed (event.Call (call.Volume g vsn c)) hashes =
     tell_volume lists apart j.history.contents g.0 j.sides c (map.get j.sides g.0) summed refl hashes
 event_tells lists apart j summed (event.Fault (call.Daemon c) healed checkpointed) hashes = tell_none
 event_tells lists apart j summed (event.Fault (call.Group g c) healed checkpointed) hashes =
-    tell_fewer lists (hashed_by j (event.Fault (call.Group g c) healed checkpointed)) hashes apart
+    tell_fewer lists (hashed_by_event j (event.Fault (call.Group g c) healed checkpointed)) hashes apart
 event_tells lists apart j summed (event.Fault (call.Volume g vsn c) healed checkpointed) hashes = tell_none
 event_tells lists apart j summed (event.Landed c) hashes = tell_none
 event_tells lists apart j summed (event.Look c) hashes = tell_none
@@ -144,8 +144,8 @@ module _ {K X Y : Type 0} {R : K → K → Ordering} (o : KeyOrder R) (f : K × 
       each-entries o (λ k x. (y : Y) → Contains (f (k, x)) y → Contains (flat_map f (map.entries m)) y) m
       (within_all (flat_map f (map.entries m)) (map.entries m) (λ y has. has)) k x is
 
-opened_row : (j : Joint) → Kept j → (g : ℕ) (s : Side) → map.get j.sides g ≡ Some s → (b : ℕ) (row : BitfileRow) → map.get s.group.tables.bitfiles b ≡ Some row
-    → (c : Chunk) → Among c row.chunks → PartIn (parts_stored j) j.history.contents b c
+opened_row : (j : Joint) → InvariantHolds j → (g : ℕ) (s : Side) → map.get j.sides g ≡ Some s → (b : ℕ) (row : BitfileRow) → map.get s.group.tables.bitfiles b ≡ Some row
+    → (c : Chunk) → IsAmong c row.chunks → PartIn (parts_stored j) j.history.contents b c
 opened_row j kept g s side b row is c among has =
     let k = (kept.sides g s side).catalogue.bitfile b row is in
     let part = part_of k.bytes c.offset c.len in
@@ -173,25 +173,25 @@ pub more_lists : (lists more : List (List ℕ)) → ((x : List ℕ) → Contains
 more_lists lists more within j summed = λ g s is. wider lists more within j.history.contents s (summed g s is)
 
 -- each read of a legal run tells its bytes
-reads_along : (lists : List (List ℕ)) → SumsTellApart lists → (j : Joint) (entries : List Entered) (k : Joint) → Kept j → Summed lists j
-    → ((x : List ℕ) → Contains (hashed j entries) x → Contains lists x) → Run j entries k → ReadsTellApart j entries
+reads_along : (lists : List (List ℕ)) → SumsTellApart lists → (j : Joint) (entries : List RunEntry) (k : Joint) → InvariantHolds j → Summed lists j
+    → ((x : List ℕ) → Contains (hashed_in_run j entries) x → Contains lists x) → Run j entries k → ReadsTellApart j entries
 reads_along lists apart j [] k kept summed hashes run = tt
 reads_along lists apart j (e ∷ es) k kept summed hashes run =
     let mid = run.0 in
     let now : HashesIn lists j e.event =
-    λ x has. hashes x (Contains-append_left (hashed_by j e.event) (hashed (state_after j (step j e.worker e.event)) es) x has) in
-    let later : (x : List ℕ) → Contains (hashed mid es) x → Contains lists x = λ x has.
-    hashes x (Contains-append_right (hashed_by j e.event) (hashed (state_after j (step j e.worker e.event)) es) x
-    (subst (λ o. Contains (hashed (state_after j o) es) x) (sym run.1) has)) in
+    λ x has. hashes x (Contains-append_left (hashed_by_event j e.event) (hashed_in_run (state_after j (step j e.worker e.event)) es) x has) in
+    let later : (x : List ℕ) → Contains (hashed_in_run mid es) x → Contains lists x = λ x has.
+    hashes x (Contains-append_right (hashed_by_event j e.event) (hashed_in_run (state_after j (step j e.worker e.event)) es) x
+    (subst (λ o. Contains (hashed_in_run (state_after j o) es) x) (sym run.1) has)) in
     let tells = event_tells lists apart j summed e.event now in
     let next = event_keeps j mid e.worker e.event e.answer tells kept run.1 in
     let rest =
     reads_along lists apart mid es k next (event_in lists j kept summed e.worker e.event mid e.answer now run.1) later run.2 in
     (tells, subst (λ o. ReadsTellApart (state_after j o) es) (sym run.1) rest)
 
-pub reads_tell : (j : Joint) (entries : List Entered) (k : Joint) → Opened j → NoCollision j entries → Run j entries k → ReadsTellApart j entries
+pub reads_tell : (j : Joint) (entries : List RunEntry) (k : Joint) → Opened j → NoCollision j entries → Run j entries k → ReadsTellApart j entries
 reads_tell j entries k opened apart run =
-    let lists = parts_stored j ++ hashed j entries in
+    let lists = parts_stored j ++ hashed_in_run j entries in
     reads_along lists apart j entries k (opened_kept j opened)
-    (more_lists (parts_stored j) lists (λ x has. Contains-append_left (parts_stored j) (hashed j entries) x has) j (opened_in j opened))
-    (λ x has. Contains-append_right (parts_stored j) (hashed j entries) x has) run
+    (more_lists (parts_stored j) lists (λ x has. Contains-append_left (parts_stored j) (hashed_in_run j entries) x has) j (opened_in j opened))
+    (λ x has. Contains-append_right (parts_stored j) (hashed_in_run j entries) x has) run

@@ -13,7 +13,7 @@ use Rattle.dm_model.specs.declared.plan.Payload.{Payload}
 use Rattle.dm_model.specs.declared.plan.Payload.TheVariants as payload
 use Rattle.dm_model.specs.declared.state.Joint.{Joint}
 use Rattle.dm_model.specs.declared.state.Side.{Side}
-use Rattle.dm_model.specs.Plan.{illegal_call, illegal_fault, prepared}
+use Rattle.dm_model.specs.Plan.{illegal_call, illegal_fault, prepared_plan}
 use Rattle.dm_model.specs.Step.{needs_of, plan_of}
 
 -- a record may be next in the tables of its component
@@ -24,11 +24,11 @@ MayBeNext j (payload.Group g r) = (s : Side) → map.get j.sides g.0 ≡ Some s 
 -- so is what each legal call journals, and what each that fails may have journalled
 abbrev pub CallsMayJournal : Joint → Type 0
 CallsMayJournal j =
-    (w : ℕ) (c : Call) (p : Payload) → illegal_call (plan_of j c) (needs_of j w c) ≡ None → (prepared (plan_of j c)).payload ≡ Some p → MayBeNext j p
+    (w : ℕ) (c : Call) (p : Payload) → illegal_call (plan_of j c) (needs_of j w c) ≡ None → (prepared_plan (plan_of j c)).payload ≡ Some p → MayBeNext j p
 
 abbrev pub FaultsMayJournal : Joint → Type 0
 FaultsMayJournal j =
-    (w : ℕ) (c : Call) (p : Payload) → illegal_fault (plan_of j c) (needs_of j w c) ≡ None → (prepared (plan_of j c)).payload ≡ Some p → MayBeNext j p
+    (w : ℕ) (c : Call) (p : Payload) → illegal_fault (plan_of j c) (needs_of j w c) ≡ None → (prepared_plan (plan_of j c)).payload ≡ Some p → MayBeNext j p
 
 -- and what is in doubt
 pub record DoubtsMayLand (j : Joint) : Type 0 where

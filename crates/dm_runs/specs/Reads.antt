@@ -16,8 +16,8 @@ use Rattle.dm_model.specs.declared.state.Joint.{Joint}
 use Rattle.dm_model.specs.declared.state.MountState.{MountState}
 use Rattle.dm_model.specs.declared.state.Side.{Side}
 use Rattle.dm_model.specs.Hashed.{NoCollision}
-use Rattle.dm_model.specs.Project.{plain_run, projected}
-use Rattle.dm_model.specs.Step.{Entered, Run, Stepped, step}
+use Rattle.dm_model.specs.Project.{plain_run, run_steps}
+use Rattle.dm_model.specs.Step.{RunEntry, Run, Stepped, step}
 use Rattle.dm_plain.specs.Namespace.{bytes_of}
 use Rattle.dm_invariant.specs.Moves.{ReadPart}
 use Rattle.dm_invariant.specs.StandsFor.{plain_of}
@@ -25,7 +25,7 @@ use Rattle.dm_shown.specs.Along.{GoesOn}
 use Rattle.dm_shown.specs.Reads.{IsForChunk, OtherSum}
 
 -- the entry of a read of a whole chunk that gave these bytes
-abbrev pub read_entry : ℕ → GroupId → Vsn → ℕ → Chunk → List ℕ → Entered
+abbrev pub read_entry : ℕ → GroupId → Vsn → ℕ → Chunk → List ℕ → RunEntry
 read_entry w g vsn m c bytes = record {
   worker = w;
   event = event.Call (call.Volume g vsn (volume_call.ReadChunk m c.place c.len bytes));
@@ -34,7 +34,7 @@ read_entry w g vsn m c bytes = record {
 
 -- after these entries a read of the chunk that a mount was made for gives the chunk's part of the content, or bytes without the
 -- chunk's sum: where the sums of what was hashed until then, the read's bytes among it, tell byte lists apart
-abbrev pub ChunksReadRight : Joint → List Entered → Joint → Type 0
+abbrev pub ChunksReadRight : Joint → List RunEntry → Joint → Type 0
 ChunksReadRight j entries k =
     (w m : ℕ) (g : GroupId) (vsn : Vsn) (b : Bfid) (c : Chunk) (bytes : List ℕ) (s : Side) (x : MountState) (after : Joint)
     → map.get k.sides g.0 ≡ Some s → map.get s.mounts m ≡ Some x → IsForChunk b c x.origin
@@ -43,7 +43,7 @@ ChunksReadRight j entries k =
     → ReadPart k.history.contents b.0 c bytes ⊎ OtherSum c bytes
 
 -- the entry of a recall that begins
-abbrev pub begin_entry : ℕ → ℕ → List ℕ → ℕ → Bfid → ℕ → List GroupId → Entered
+abbrev pub begin_entry : ℕ → ℕ → List ℕ → ℕ → Bfid → ℕ → List GroupId → RunEntry
 begin_entry v request path number b len groups = record {
   worker = v;
   event = event.Call (call.Daemon (daemon_call.BeginRecall path request));
@@ -52,12 +52,12 @@ begin_entry v request path number b len groups = record {
 
 -- a recall that began in a run, and ends behind it with no stop between, is answered as the plain namespace has the path then at
 -- which it was begun
-abbrev pub RecallsAnswered : Joint → List Entered → Joint → Type 0
+abbrev pub RecallsAnswered : Joint → List RunEntry → Joint → Type 0
 RecallsAnswered j entries i =
-    (begun k after : Joint) (v w request number len : ℕ) (path : List ℕ) (b : Bfid) (groups : List GroupId) (later : List Entered)
+    (begun k after : Joint) (v w request number len : ℕ) (path : List ℕ) (b : Bfid) (groups : List GroupId) (later : List RunEntry)
     (bytes given : List ℕ) (now : Secs)
     → step i v (begin_entry v request path number b len groups).event ≡ Stepped begun (begin_entry v request path number b len groups).answer
     → AllByRecursion (λ e. GoesOn e.event) later → Run begun later k
     → step k w (event.Call (call.Daemon (daemon_call.EndRecall request bytes now))) ≡ Stepped after (answer.Recalled given)
     → let whole = entries ++ begin_entry v request path number b len groups ∷ later in
-    NoCollision j whole → bytes_of path (plain_run (projected j whole) (plain_of j)) ≡ Some given
+    NoCollision j whole → bytes_of path (plain_run (run_steps j whole) (plain_of j)) ≡ Some given

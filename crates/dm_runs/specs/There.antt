@@ -13,7 +13,7 @@ use Rattle.dm_model.specs.declared.state.Joint.{Joint}
 use Rattle.dm_model.specs.declared.state.Reserved.{Reserved}
 use Rattle.dm_model.specs.declared.state.Side.{Side}
 use Rattle.dm_model.specs.GroupCalls.{may_reserve, recalls_from}
-use Rattle.dm_invariant.specs.Among.{Among}
+use Rattle.dm_invariant.specs.Among.{IsAmong}
 use Rattle.dm_invariant.specs.Reservations.{PutOf}
 
 -- the entry is there, asks the group and has this length
@@ -44,7 +44,7 @@ MountedWhole j =
 -- where a chunk ends one begins, or the bitfile ends
 abbrev pub ChunksFollow : Joint → Type 0
 ChunksFollow j =
-    (g b : ℕ) (s : Side) (row : BitfileRow) (c : Chunk) → map.get j.sides g ≡ Some s → map.get s.group.tables.bitfiles b ≡ Some row → Among c row.chunks
+    (g b : ℕ) (s : Side) (row : BitfileRow) (c : Chunk) → map.get j.sides g ≡ Some s → map.get s.group.tables.bitfiles b ≡ Some row → IsAmong c row.chunks
     → (c.offset + c.len ≡ row.len) ⊎ IsSome (chunk_at (c.offset + c.len) row.chunks)
 
 -- a copy that is kept is one of an open put, under the number that it has; and its reservation, where it shows one, is open and of

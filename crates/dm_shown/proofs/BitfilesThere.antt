@@ -9,10 +9,10 @@ use Rattle.dm_durable.specs.declared.daemon.DumpInode.TheVariants.{Kept as KeptF
 use Rattle.dm_durable.specs.declared.daemon.Entry.{Entry}
 use Rattle.dm_durable.specs.Entries.{groups_asked, is_stored}
 use Rattle.dm_model.specs.declared.state.Joint.{Joint}
-use Rattle.dm_invariant.specs.Among.{Among}
+use Rattle.dm_invariant.specs.Among.{IsAmong}
 use Rattle.dm_invariant.specs.Doubts.{InGroup}
 use Rattle.dm_invariant.specs.Files.{DumpedRightly}
-use Rattle.dm_invariant.specs.Kept.{Kept}
+use Rattle.dm_invariant.specs.Kept.{InvariantHolds}
 use Rattle.dm_invariant.proofs.AskedGroups.{asked_stored}
 use Rattle.dm_invariant.proofs.Options.{value_of}
 use Rattle.dm_shown.specs.There.{FileThere, RequestThere, YoungThere}
@@ -25,10 +25,10 @@ is_false : (b : Bool) → not b ≡ true → b ≡ false
 is_false true is = cc
 is_false false is = refl
 
-module _ (j : Joint) (kept : Kept j) where
+module _ (j : Joint) (kept : InvariantHolds j) where
   -- each group that the entry asks has the bitfile, where every copy is stored
   in_groups : (b : ℕ) (e : Entry) → map.get j.daemon.tables.entries b ≡ Some e → is_stored e ≡ true → e.dropping ≡ false
-      → (g : GroupId) → Among g (groups_asked e) → InGroup j.sides g.0 b
+      → (g : GroupId) → IsAmong g (groups_asked e) → InGroup j.sides g.0 b
   in_groups b e is whole lasting g among =
       let side = value_of (map.get j.sides g.0) (kept.configured b e is g among) in
       let stored = asked_stored e g.0 (record { group = g; among = among; same = refl }) whole in

@@ -26,13 +26,13 @@ use Rattle.dm_model.specs.DaemonCalls.{attributes, begin_put, begin_recall, begi
 use Rattle.dm_model.specs.DaemonCalls.{end_put, end_recall, hard_delete_of, patch, release, remove, restore, restore_file, step_taken, taken_at, time_at}
 use Rattle.dm_model.specs.Files.{File, file_at, file_named, file_of, has_open_recall, is_away, state_of}
 use Rattle.dm_model.specs.Guards.{NoneHold, first_true}
-use Rattle.dm_model.specs.Plan.{Plan, if_accepted, prepared, refusal_of}
+use Rattle.dm_model.specs.Plan.{Plan, if_accepted, prepared_plan, refusal_of}
 use Rattle.dm_model.specs.Project.{plain_run, steps_at, steps_of_call}
 use Rattle.dm_plain.specs.declared.step.PlainStep.{PlainStep}
-use Rattle.dm_plain.specs.Namespace.{Namespace, bytes_of, written}
-use Rattle.dm_plain.specs.Patching.{patched as plain_patched}
+use Rattle.dm_plain.specs.Namespace.{Namespace, bytes_of, with_file}
+use Rattle.dm_plain.specs.Patching.{with_patch as plain_patched}
 use Rattle.dm_plain.specs.Steps.{range_replaced}
-use Rattle.dm_rules.specs.Patching.{patched}
+use Rattle.dm_rules.specs.Patching.{with_patch}
 use Rattle.dm_shown.proofs.FilesShown.{bytes_in, bytes_named, content_bytes, get-shown}
 use Rattle.dm_shown.proofs.PlansShown.{AgreesWith, files_of, payload_steps}
 
@@ -146,9 +146,9 @@ bytes_of_file contents inodes (Some n) f is = ap (λ bytes. Some bytes) (bytes_a
 
 -- a patch of a file with these bytes is a write of the patched ones
 patch_is_write : (path : List ℕ) (offset : ℕ) (bytes old : List ℕ) (ns : Namespace) → map.get ns.files path ≡ Some old
-    → range_replaced path offset bytes ns ≡ written path (patched offset bytes old) ns
+    → range_replaced path offset bytes ns ≡ with_file path (with_patch offset bytes old) ns
 unfolding range_replaced bytes_of plain_patched
-patch_is_write path offset bytes old ns is = ap (λ o. option_map_or (λ was. written path (plain_patched offset bytes was) ns) o ns) is
+patch_is_write path offset bytes old ns is = ap (λ o. option_map_or (λ was. with_file path (plain_patched offset bytes was) ns) o ns) is
 
 -- none holds where there is no first one
 none_hold : {X : Type 0} (ts : List (Bool × X)) → first_true ts ≡ None → NoneHold ts
@@ -164,7 +164,7 @@ module _ (j : Joint) (ns : Namespace) (a : AgreesWith (files_of j) ns) where
   abbrev Does : Option Payload → List PlainStep → Type 0
   Does p steps = plain_run (steps_at p steps) ns ≡ plain_run (payload_steps p) ns
 
-  does_given : (p : Plan) (steps : List PlainStep) → Gives p steps → Does (prepared p).payload steps
+  does_given : (p : Plan) (steps : List PlainStep) → Gives p steps → Does (prepared_plan p).payload steps
   does_given p steps gives = ap (λ ss. plain_run ss ns) (given_if (refusal_of p) p.payload steps gives)
 
   patched_none : (refusal : Option Answer) (steps : List PlainStep) → Does (if_accepted refusal None None) steps
@@ -188,7 +188,7 @@ module _ (j : Joint) (ns : Namespace) (a : AgreesWith (files_of j) ns) where
   patched_file path offset bytes now f (Some r) is here = refl
 
   file_patched : (path : List ℕ) (offset : ℕ) (bytes : List ℕ) (now : Secs) (o : Option File) → file_at j.daemon path ≡ o
-      → Does (prepared (patch j.daemon path offset bytes now.0 o)).payload (steps_of_call (call.Patch path offset bytes now))
+      → Does (prepared_plan (patch j.daemon path offset bytes now.0 o)).payload (steps_of_call (call.Patch path offset bytes now))
   file_patched path offset bytes now None is =
       patched_none (refusal_of (patch j.daemon path offset bytes now.0 None)) (steps_of_call (call.Patch path offset bytes now))
   file_patched path offset bytes now (Some f) is =
@@ -198,7 +198,7 @@ module _ (j : Joint) (ns : Namespace) (a : AgreesWith (files_of j) ns) where
   -- ---- any call
 
   -- a call of the daemon gives steps that do what its record does
-  pub call_does : (c : DaemonCall) → Does (prepared (daemon_plan j.daemon c)).payload (steps_of_call c)
+  pub call_does : (c : DaemonCall) → Does (prepared_plan (daemon_plan j.daemon c)).payload (steps_of_call c)
   call_does (call.BeginPut path asked now k) =
       does_given (daemon_plan j.daemon (call.BeginPut path asked now k)) [] (put_begins j.daemon path asked now.0 k (file_at j.daemon path))
   call_does (call.CopyStored k group now) =

@@ -7,7 +7,7 @@ use Rattle.dm_base.specs.declared.identifier.Bfid.{Bfid}
 use Rattle.dm_base.specs.declared.identifier.GroupId.{GroupId}
 use Rattle.dm_base.specs.declared.serial.Vsn.{Vsn}
 use Rattle.dm_base.specs.declared.volume.Chunk.{Chunk}
-use Rattle.dm_rules.specs.Known.{Known, agrees, byte_and, known_bytes}
+use Rattle.dm_rules.specs.Known.{Known, agrees_with_known, byte_and, known_bytes}
 use Rattle.dm_rules.proofs.Knowledge.{agrees-known_bytes}
 use Rattle.dm_durable.specs.Tables.{Numbered}
 use Rattle.dm_durable.specs.declared.group.VolumeRow.{VolumeRow}
@@ -25,11 +25,11 @@ use Rattle.dm_model.specs.declared.state.Origin.{Origin}
 use Rattle.dm_model.specs.declared.state.Origin.TheVariants as origin
 use Rattle.dm_model.specs.declared.state.Side.{Side}
 use Rattle.dm_model.specs.GroupCalls.{part_of}
-use Rattle.dm_model.specs.Plan.{guards_of, illegal_call, prepared}
+use Rattle.dm_model.specs.Plan.{guards_of, illegal_call, prepared_plan}
 use Rattle.dm_model.specs.Step.{Stepped, after_call, step, volume_needs_in, volume_plan_in}
 use Rattle.dm_model.specs.VolumeCalls.{volume_needs, volume_plan}
 use Rattle.dm_invariant.specs.Assemble.{IsSumOf, known_of, known_on}
-use Rattle.dm_invariant.specs.Kept.{Kept}
+use Rattle.dm_invariant.specs.Kept.{InvariantHolds}
 use Rattle.dm_invariant.specs.Mounts.{OriginKept}
 use Rattle.dm_invariant.specs.OnceLive.{MountOnce, OnceLive, StillThere}
 use Rattle.dm_invariant.proofs.Texts.{texts_equal}
@@ -58,7 +58,7 @@ pub record ReadOf (s : Side) (x : MountState) (vsn : Vsn) (place n : ℕ) (bytes
   pub is : map.get s.images vsn.0 ≡ Some image
   pub volume : x.vsn.0 ≡ vsn.0
   pub sized : length bytes ≡ n
-  pub agreed : x.bound ≡ true → agrees image.known place bytes ≡ true
+  pub agreed : x.bound ≡ true → agrees_with_known image.known place bytes ≡ true
 
 bound_agrees : (bound agreed : Bool) → (not bound || agreed) ≡ true → bound ≡ true → agreed ≡ true
 bound_agrees true agreed passes is = passes
@@ -79,7 +79,7 @@ image_read g vsn s (Some image) x m place n bytes is legal =
       is = is;
       volume = texts_equal x.vsn.0 vsn.0 hold.1.0;
       sized = eqb-true (length bytes) n hold.1.1.1.0;
-      agreed = bound_agrees x.bound (agrees image.known place bytes) hold.1.1.1.1.0;
+      agreed = bound_agrees x.bound (agrees_with_known image.known place bytes) hold.1.1.1.1.0;
     }
 
 pub read_of : (j : Joint) (w : ℕ) (g : GroupId) (vsn : Vsn) (s : Side) (x : MountState) (m place n : ℕ) (bytes : List ℕ) (later : Joint) (a : Answer)
@@ -90,7 +90,7 @@ read_of j w g vsn s x m place n bytes later a side mount is =
     let c = volume_call.ReadChunk m place n bytes in
     let p = volume_plan_in g vsn c (map.get j.sides g.0) in
     let needs = volume_needs_in vsn c (map.get j.sides g.0) in
-    let legal = (outcome_is (illegal_call p needs) (after_call w (prepared p) j) later (prepared p).answer a is).0 in
+    let legal = (outcome_is (illegal_call p needs) (after_call w (prepared_plan p) j) later (prepared_plan p).answer a is).0 in
     let here : IsLegal g vsn c (map.get s.images vsn.0) (map.get s.mounts m) =
     subst (λ o. illegal_call (volume_plan_in g vsn c o) (volume_needs_in vsn c o) ≡ None) side legal in
     image_read g vsn s (map.get s.images vsn.0) x m place n bytes refl (subst (λ o. IsLegal g vsn c (map.get s.images vsn.0) o) mount here)
@@ -135,7 +135,7 @@ chunk_there_of contents s b c m x (origin.Source job d e) made for is once origi
 chunk_there_of contents s b c m x (origin.Target job d total e version) made for is once origin_kept epoch = absurd for
 chunk_there_of contents s b c m x (origin.Reuse next_epoch version reading) made for is once origin_kept epoch = absurd for
 
-module _ (j : Joint) (kept : Kept j) (g : ℕ) (s : Side) (side : map.get j.sides g ≡ Some s) where
+module _ (j : Joint) (kept : InvariantHolds j) (g : ℕ) (s : Side) (side : map.get j.sides g ≡ Some s) where
   pub chunk_there : (m : ℕ) (x : MountState) (b : Bfid) (c : Chunk) → map.get s.mounts m ≡ Some x → IsForChunk b c x.origin
       → ChunkThere j.history.contents s b.0 c x
   chunk_there m x b c is for =
@@ -168,6 +168,6 @@ module _ (j : Joint) (kept : Kept j) (g : ℕ) (s : Side) (side : map.get j.side
       }
 
 -- a read of the chunk of its mount gives the chunk's part of the content
-pub chunks_right : (j : Joint) → Kept j → ChunksRight j
+pub chunks_right : (j : Joint) → InvariantHolds j → ChunksRight j
 chunks_right j kept = λ w m g vsn b c bytes s x later side mount for is.
     known_of_read j kept g.0 s side m x vsn b c bytes mount for (read_of j w g vsn s x m c.place c.len bytes later (answer.ChunkRead bytes) side mount is)

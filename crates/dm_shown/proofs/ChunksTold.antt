@@ -13,7 +13,7 @@ use Rattle.dm_model.specs.declared.state.Origin.TheVariants as origin
 use Rattle.dm_model.specs.declared.state.Side.{Side}
 use Rattle.dm_model.specs.GroupCalls.{part_of}
 use Rattle.dm_model.specs.Hashed.{SumsTellApart}
-use Rattle.dm_invariant.specs.Kept.{Kept}
+use Rattle.dm_invariant.specs.Kept.{InvariantHolds}
 use Rattle.dm_invariant.specs.Mounts.{MayRead}
 use Rattle.dm_invariant.specs.Moves.{ReadPart}
 use Rattle.dm_shown.specs.Reads.{ChunksTold, IsForChunk, OtherSum, ReadKnown}
@@ -36,7 +36,7 @@ summed_of b c bound (origin.Source job d e) for may free =
 summed_of b c bound (origin.Target job d total e version) for may free = absurd for
 summed_of b c bound (origin.Reuse next_epoch version reading) for may free = absurd for
 
-module _ (j : Joint) (kept : Kept j) (g : ℕ) (s : Side) (side : map.get j.sides g ≡ Some s) where
+module _ (j : Joint) (kept : InvariantHolds j) (g : ℕ) (s : Side) (side : map.get j.sides g ≡ Some s) where
   told_of : (b : ℕ) (c : Chunk) (x : MountState) (bytes : List ℕ) (k : ReadKnown j.history.contents b c x bytes)
       → (x.bound ≡ false → (sum : List ℕ) × (c.sum ≡ Some sum)) → SumsTellApart (bytes ∷ part_of k.whole c.offset c.len ∷ [])
       → (y : Bool) → x.bound ≡ y → ReadPart j.history.contents b c bytes ⊎ OtherSum c bytes
@@ -56,7 +56,7 @@ module _ (j : Joint) (kept : Kept j) (g : ℕ) (s : Side) (side : map.get j.side
       let k = known_of_read j kept g s side m x vsn b c bytes is for read in
       told_of b.0 c x bytes k (summed_of b c x.bound x.origin for ((kept.sides g s side).mounts.reads m x is)) (apart k.whole k.content) x.bound refl
 
-pub chunks_told : (j : Joint) → Kept j → ChunksTold j
+pub chunks_told : (j : Joint) → InvariantHolds j → ChunksTold j
 chunks_told j kept = λ w m g vsn b c bytes s x later side mount for is apart.
     read_told j kept g.0 s side m x vsn b c bytes mount for
     (read_of j w g vsn s x m c.place c.len bytes later (answer.ChunkRead bytes) side mount is) apart

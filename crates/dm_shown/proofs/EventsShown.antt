@@ -24,17 +24,17 @@ use Rattle.dm_model.specs.declared.state.Side.{Side}
 use Rattle.dm_model.specs.DaemonCalls.{daemon_needs, daemon_plan}
 use Rattle.dm_model.specs.GroupCalls.{group_plan}
 use Rattle.dm_model.specs.Guards.{Guarded, AllHold, lower_of, lowest_false}
-use Rattle.dm_model.specs.Plan.{Plan, Needs, guards_of, illegal_call, illegal_fault, prepared, refusal_of}
+use Rattle.dm_model.specs.Plan.{Plan, Needs, guards_of, illegal_call, illegal_fault, prepared_plan, refusal_of}
 use Rattle.dm_model.specs.Project.{event_steps, plain_run, steps_of_doubt}
 use Rattle.dm_model.specs.Effects.{after_ending}
-use Rattle.dm_model.specs.Step.{Stepped, after_call, after_fault, after_landing, after_stop, landed_doubt, landed_in, looked, looked_in}
+use Rattle.dm_model.specs.Step.{Stepped, after_call, after_fault, after_landing, after_stop, doubt_outcome, landing_outcome_in, look_outcome, look_outcome_in}
 use Rattle.dm_model.specs.Step.{needs_of, outcome_of, plan_of, side_plan, step, volume_plan_in}
 use Rattle.dm_model.specs.VolumeCalls.{mount_in, volume_plan}
 use Rattle.dm_model.proofs.PlansOf.{group_plan-of, prepared-of, volume_plan-of}
 use Rattle.dm_model.proofs.Shares.{OpensOf, PaysOf}
 use Rattle.dm_plain.specs.Namespace.{Namespace}
 use Rattle.dm_invariant.specs.Doubts.{MayLandIf}
-use Rattle.dm_invariant.specs.Kept.{Kept}
+use Rattle.dm_invariant.specs.Kept.{InvariantHolds}
 use Rattle.dm_landing.proofs.CallsLanded.{PayloadLands, daemon_call_lands}
 use Rattle.dm_effects.proofs.BeginningCalls.{always_hold}
 use Rattle.dm_shown.proofs.CallsShown.{call_does}
@@ -58,7 +58,7 @@ outcome_is None after k b a is = (refl, cc, cc)
 outcome_is (Some guard) after k b a is = absurd (cc)
 
 -- a step in doubt that landed was there
-pub landed_is : (j k : Joint) (c : Component) (o : Option Payload) (a : Answer) → landed_doubt j c o ≡ Stepped k a
+pub landed_is : (j k : Joint) (c : Component) (o : Option Payload) (a : Answer) → doubt_outcome j c o ≡ Stepped k a
     → (p : Payload) × (o ≡ Some p) × (after_landing c p j ≡ k)
 landed_is j k c None a is = absurd (cc)
 landed_is j k c (Some p) a is = (p, refl, cc)
@@ -68,21 +68,21 @@ mapped_is f None y is = absurd (cc)
 mapped_is f (Some x) y is = (x, refl, cc)
 
 -- and a look changed nothing
-looked_is : (j k : Joint) (o : Option Side) (a : Answer) → looked_in j o ≡ Stepped k a → j ≡ k
+looked_is : (j k : Joint) (o : Option Side) (a : Answer) → look_outcome_in j o ≡ Stepped k a → j ≡ k
 looked_is j k None a is = absurd (cc)
 looked_is j k (Some s) a is = cc
 
-pub look_is : (j k : Joint) (c : Component) (a : Answer) → looked j c ≡ Stepped k a → j ≡ k
+pub look_is : (j k : Joint) (c : Component) (a : Answer) → look_outcome j c ≡ Stepped k a → j ≡ k
 look_is j k component.Daemon a is = cc
 look_is j k (component.Group g) a is = looked_is j k (map.get j.sides g.0) a is
 
 -- ---- what groups and volumes journal is nothing of the daemon
 
-pub side_pays : (g : GroupId) (c : GroupCall) (o : Option Side) → PaysOf g (prepared (side_plan g c o)).payload
+pub side_pays : (g : GroupId) (c : GroupCall) (o : Option Side) → PaysOf g (prepared_plan (side_plan g c o)).payload
 side_pays g c None = tt
 side_pays g c (Some s) = (prepared-of g (group_plan g s.group c) (group_plan-of g s.group c)).pays
 
-pub volume_pays : (g : GroupId) (vsn : Vsn) (c : VolumeCall) (o : Option Side) → PaysOf g (prepared (volume_plan_in g vsn c o)).payload
+pub volume_pays : (g : GroupId) (vsn : Vsn) (c : VolumeCall) (o : Option Side) → PaysOf g (prepared_plan (volume_plan_in g vsn c o)).payload
 volume_pays g vsn c None = tt
 volume_pays g vsn c (Some s) =
     let image = map.get s.images vsn.0 in
@@ -90,11 +90,11 @@ volume_pays g vsn c (Some s) =
     (prepared-of g (volume_plan g vsn image mount c) (volume_plan-of g vsn image mount c)).pays
 
 -- nor do they make requests
-pub side_opens : (g : GroupId) (c : GroupCall) (o : Option Side) → OpensOf g (prepared (side_plan g c o)).opens
+pub side_opens : (g : GroupId) (c : GroupCall) (o : Option Side) → OpensOf g (prepared_plan (side_plan g c o)).opens
 side_opens g c None = tt
 side_opens g c (Some s) = (prepared-of g (group_plan g s.group c) (group_plan-of g s.group c)).opens
 
-pub volume_opens : (g : GroupId) (vsn : Vsn) (c : VolumeCall) (o : Option Side) → OpensOf g (prepared (volume_plan_in g vsn c o)).opens
+pub volume_opens : (g : GroupId) (vsn : Vsn) (c : VolumeCall) (o : Option Side) → OpensOf g (prepared_plan (volume_plan_in g vsn c o)).opens
 volume_opens g vsn c None = tt
 volume_opens g vsn c (Some s) =
     let image = map.get s.images vsn.0 in
@@ -107,7 +107,7 @@ record_is q r is = cc
 pub payload_is : (p q : Payload) → Some p ≡ Some q → p ≡ q
 payload_is p q is = cc
 
-module _ (j : Joint) (w : ℕ) (ns : Namespace) (kept : Kept j) (a : AgreesWith (files_of j) ns) where
+module _ (j : Joint) (w : ℕ) (ns : Namespace) (kept : InvariantHolds j) (a : AgreesWith (files_of j) ns) where
   -- ---- calls
 
   -- a payload that may land after what was spent does its steps
@@ -132,20 +132,20 @@ module _ (j : Joint) (w : ℕ) (ns : Namespace) (kept : Kept j) (a : AgreesWith 
   called_agrees c k x is =
       let p = daemon_plan j.daemon c in
       let n = daemon_needs j.sides (map.get j.workers w) j.history j.daemon c in
-      let o = outcome_is (illegal_call p n) (after_call w (prepared p) j) k (prepared p).answer x is in
+      let o = outcome_is (illegal_call p n) (after_call w (prepared_plan p) j) k (prepared_plan p).answer x is in
       let legal = always_hold p n (refusal_of p) (all_hold (guards_of (refusal_of p) p n) o.0) in
       let lands = daemon_call_lands j kept w c legal in
       subst (λ i. AgreesWith (files_of i) (plain_run (event_steps j (event.Call (call.Daemon c))) ns)) o.1
-      (subst (λ m. AgreesWith (files_of (after_call w (prepared p) j)) m) (sym (call_does j ns a c))
-      (payload_agrees (prepared p) (prepared p).payload refl (lands_follows (prepared p) (prepared p).payload lands)))
+      (subst (λ m. AgreesWith (files_of (after_call w (prepared_plan p) j)) m) (sym (call_does j ns a c))
+      (payload_agrees (prepared_plan p) (prepared_plan p).payload refl (lands_follows (prepared_plan p) (prepared_plan p).payload lands)))
 
   -- a call of a group or on a volume
-  other_agrees : (g : GroupId) (p : Plan) (n : Needs) (k : Joint) (x : Answer) → PaysOf g (prepared p).payload
-      → outcome_of (illegal_call p n) (after_call w (prepared p) j) (prepared p).answer ≡ Stepped k x → AgreesWith (files_of k) ns
+  other_agrees : (g : GroupId) (p : Plan) (n : Needs) (k : Joint) (x : Answer) → PaysOf g (prepared_plan p).payload
+      → outcome_of (illegal_call p n) (after_call w (prepared_plan p) j) (prepared_plan p).answer ≡ Stepped k x → AgreesWith (files_of k) ns
   other_agrees g p n k x of is =
-      let o = outcome_is (illegal_call p n) (after_call w (prepared p) j) k (prepared p).answer x is in
+      let o = outcome_is (illegal_call p n) (after_call w (prepared_plan p) j) k (prepared_plan p).answer x is in
       subst (λ i. AgreesWith (files_of i) ns) o.1
-      (subst (λ files. AgreesWith files ns) (sym (called_files w j (prepared p) ∙ group_paid g (prepared p).payload (files_of j) of)) a)
+      (subst (λ files. AgreesWith files ns) (sym (called_files w j (prepared_plan p) ∙ group_paid g (prepared_plan p).payload (files_of j) of)) a)
 
   -- ---- calls that fail, and steps in doubt that land
 
@@ -155,12 +155,12 @@ module _ (j : Joint) (w : ℕ) (ns : Namespace) (kept : Kept j) (a : AgreesWith 
       let p = plan_of j c in
       let n = needs_of j w c in
       let far = healed && checkpointed in
-      let o = outcome_is (illegal_fault p n) (after_fault w (prepared p) far j) k _ x is in
-      subst (λ i. AgreesWith (files_of i) ns) o.1 (subst (λ files. AgreesWith files ns) (sym (failed_files w j (prepared p) far)) a)
+      let o = outcome_is (illegal_fault p n) (after_fault w (prepared_plan p) far j) k _ x is in
+      subst (λ i. AgreesWith (files_of i) ns) o.1 (subst (λ files. AgreesWith files ns) (sym (failed_files w j (prepared_plan p) far)) a)
 
   landed_agrees_of : (k : Joint) (x : Answer) (o : Option DaemonRecord) → j.daemon.doubt ≡ o
       → MayLandIf j.daemon.tables j.daemon.requests j.history.contents j.daemon.cap j.sides o
-      → landed_doubt j component.Daemon (option_map (λ r. payload.Daemon r) o) ≡ Stepped k x → AgreesWith (files_of k) (plain_run (steps_of_doubt o) ns)
+      → doubt_outcome j component.Daemon (option_map (λ r. payload.Daemon r) o) ≡ Stepped k x → AgreesWith (files_of k) (plain_run (steps_of_doubt o) ns)
   landed_agrees_of k x None at may is = absurd (cc)
   landed_agrees_of k x (Some r) at may is =
       let l = landed_is j k component.Daemon (Some (payload.Daemon r)) x is in
@@ -171,7 +171,7 @@ module _ (j : Joint) (w : ℕ) (ns : Namespace) (kept : Kept j) (a : AgreesWith 
       (record_agrees j ns r kept (follows j r may) a))
 
   group_landed_agrees : (g : GroupId) (o : Option GroupRecord) (k : Joint) (x : Answer)
-      → landed_doubt j (component.Group g) (option_map (λ r. payload.Group g r) o) ≡ Stepped k x → AgreesWith (files_of k) ns
+      → doubt_outcome j (component.Group g) (option_map (λ r. payload.Group g r) o) ≡ Stepped k x → AgreesWith (files_of k) ns
   group_landed_agrees g None k x is = absurd (cc)
   group_landed_agrees g (Some r) k x is =
       let l = landed_is j k (component.Group g) (Some (payload.Group g r)) x is in
@@ -180,7 +180,7 @@ module _ (j : Joint) (w : ℕ) (ns : Namespace) (kept : Kept j) (a : AgreesWith 
       subst (λ i. AgreesWith (files_of i) ns) same
       (subst (λ files. AgreesWith files ns) (sym (landed_files j (component.Group g) (payload.Group g r))) a)
 
-  side_landed_agrees : (g : GroupId) (o : Option Side) (k : Joint) (x : Answer) → landed_in j g o ≡ Stepped k x → AgreesWith (files_of k) ns
+  side_landed_agrees : (g : GroupId) (o : Option Side) (k : Joint) (x : Answer) → landing_outcome_in j g o ≡ Stepped k x → AgreesWith (files_of k) ns
   side_landed_agrees g None k x is = absurd (cc)
   side_landed_agrees g (Some s) k x is = group_landed_agrees g s.group.doubt k x is
 

@@ -17,10 +17,10 @@ use Rattle.dm_model.specs.DaemonCalls.{begin_recall, begin_recall_of, bytes_take
 use Rattle.dm_model.specs.Effects.{after_ending}
 use Rattle.dm_model.specs.Files.{File, file_at, is_recall}
 use Rattle.dm_model.specs.Guards.{AllHold, first_true}
-use Rattle.dm_model.specs.Plan.{answer_of, guards_always, guards_of, if_accepted, illegal_call, prepared, refusal_of}
+use Rattle.dm_model.specs.Plan.{answer_of, guards_always, guards_of, if_accepted, illegal_call, prepared_plan, refusal_of}
 use Rattle.dm_model.specs.Step.{Stepped, after_call, step}
 use Rattle.dm_plain.specs.Namespace.{Namespace, bytes_of}
-use Rattle.dm_invariant.specs.Kept.{Kept}
+use Rattle.dm_invariant.specs.Kept.{InvariantHolds}
 use Rattle.dm_invariant.specs.StandsFor.{copy_or}
 use Rattle.dm_landing.proofs.CallFiles.{contents_there}
 use Rattle.dm_landing.proofs.CallsLanded.{PayloadLands, daemon_call_lands}
@@ -41,7 +41,7 @@ holds_named j ns path a =
 -- ---- files whose bytes are on the disk
 
 module _ (j : Joint) where
-  online_of : (k : ℕ) (f : File) (c : Contents) (bytes : List ℕ) → (prepared (begin_recall_of j.daemon k f c)).answer ≡ answer.Online bytes
+  online_of : (k : ℕ) (f : File) (c : Contents) (bytes : List ℕ) → (prepared_plan (begin_recall_of j.daemon k f c)).answer ≡ answer.Online bytes
       → content_bytes j.history.contents c ≡ bytes
   online_of k f (Regular own) bytes is = cc
   online_of k f (Making own b) bytes is = cc
@@ -49,7 +49,7 @@ module _ (j : Joint) where
   online_of k f (Offline len b) bytes is = absurd (cc)
 
   online_at : (k : ℕ) (path bytes : List ℕ) (o : Option File) → file_at j.daemon path ≡ o
-      → (prepared (begin_recall j.daemon k o)).answer ≡ answer.Online bytes
+      → (prepared_plan (begin_recall j.daemon k o)).answer ≡ answer.Online bytes
       → bytes_named j.history.contents j.daemon.tables.inodes (map.get j.daemon.tables.names path) ≡ Some bytes
   online_at k path bytes None there is = absurd (cc)
   online_at k path bytes (Some f) there is =
@@ -61,7 +61,7 @@ module _ (j : Joint) where
   online_right ns a = λ w k path bytes later is.
       let p = daemon_plan j.daemon (daemon_call.BeginRecall path k) in
       let n = daemon_needs j.sides (map.get j.workers w) j.history j.daemon (daemon_call.BeginRecall path k) in
-      let told = (outcome_is (illegal_call p n) (after_call w (prepared p) j) later (prepared p).answer (answer.Online bytes) is).2 in
+      let told = (outcome_is (illegal_call p n) (after_call w (prepared_plan p) j) later (prepared_plan p).answer (answer.Online bytes) is).2 in
       holds_named j ns path a ∙ online_at k path bytes (file_at j.daemon path) refl told
 
 -- ---- files that were recalled
@@ -77,7 +77,7 @@ unchanged_answer r (Some n) mine given is told =
     let here = ap (λ o. answer_of (first_true (changed_in (record r { found = o }))) (answer.Recalled mine)) is in
     absurd (cc)
 
-module _ (j : Joint) (ns : Namespace) (kept : Kept j) (a : AgreesWith (files_of j) ns) where
+module _ (j : Joint) (ns : Namespace) (kept : InvariantHolds j) (a : AgreesWith (files_of j) ns) where
   -- what a recall takes is the content
   taken_content : (w k now n : ℕ) (bytes : List ℕ) (i : Inode) (c : Contents) → map.get j.daemon.tables.inodes n ≡ Some i → i.contents ≡ c
       → PayloadLands (after_ending w (ending.Recall k) j) (step_taken j.daemon now n bytes c)
@@ -90,12 +90,12 @@ module _ (j : Joint) (ns : Namespace) (kept : Kept j) (a : AgreesWith (files_of 
   -- the payload of a recall that found no change
   taken_payload : (w k now : ℕ) (bytes : List ℕ) (r : OpenRequest) (i : Inode) → r.found ≡ None
       → map.get j.daemon.tables.inodes r.ino.0 ≡ Some i
-      → PayloadLands (after_ending w (ending.Recall k) j) (prepared (end_recall j.daemon k bytes now (Some r))).payload
+      → PayloadLands (after_ending w (ending.Recall k) j) (prepared_plan (end_recall j.daemon k bytes now (Some r))).payload
       → content_bytes j.history.contents i.contents ≡ bytes_taken bytes i.contents
   taken_payload w k now bytes r i unfound is lands =
       let whole = λ (o : Option ℕ) (c : Contents).
       if_accepted (first_true (changed_in (record r { found = o }))) None (step_taken j.daemon now r.ino.0 bytes c) in
-      let same : (prepared (end_recall j.daemon k bytes now (Some r))).payload ≡ step_taken j.daemon now r.ino.0 bytes i.contents =
+      let same : (prepared_plan (end_recall j.daemon k bytes now (Some r))).payload ≡ step_taken j.daemon now r.ino.0 bytes i.contents =
       ap (λ o. whole o (contents_of (map.get j.daemon.tables.inodes r.ino.0))) unfound
       ∙ ap (whole None) (contents_there j.daemon.tables.inodes r.ino.0 i is) in
       taken_content w k now r.ino.0 bytes i i.contents is refl (subst (PayloadLands (after_ending w (ending.Recall k) j)) same lands)
@@ -109,8 +109,8 @@ module _ (j : Joint) (ns : Namespace) (kept : Kept j) (a : AgreesWith (files_of 
 
   recalled_file : (w k now : ℕ) (bytes given : List ℕ) (r : OpenRequest) → map.get j.daemon.requests k ≡ Some r
       → AllHold (guards_always (end_recall j.daemon k bytes now (Some r)) (end_recall_needs (map.get j.workers w) k bytes))
-      → PayloadLands (after_ending w (ending.Recall k) j) (prepared (end_recall j.daemon k bytes now (Some r))).payload
-      → (prepared (end_recall j.daemon k bytes now (Some r))).answer ≡ answer.Recalled given → Answered r given
+      → PayloadLands (after_ending w (ending.Recall k) j) (prepared_plan (end_recall j.daemon k bytes now (Some r))).payload
+      → (prepared_plan (end_recall j.daemon k bytes now (Some r))).answer ≡ answer.Recalled given → Answered r given
   recalled_file w k now bytes given r at legal lands told =
       let inodes = j.daemon.tables.inodes in
       let kind : is_recall r.kind ≡ true = legal.0 in
@@ -136,13 +136,13 @@ module _ (j : Joint) (ns : Namespace) (kept : Kept j) (a : AgreesWith (files_of 
       let c = daemon_call.EndRecall k bytes now in
       let p = daemon_plan j.daemon c in
       let n = daemon_needs j.sides (map.get j.workers w) j.history j.daemon c in
-      let came = outcome_is (illegal_call p n) (after_call w (prepared p) j) later (prepared p).answer (answer.Recalled given) is in
+      let came = outcome_is (illegal_call p n) (after_call w (prepared_plan p) j) later (prepared_plan p).answer (answer.Recalled given) is in
       let legal = always_hold p n (refusal_of p) (all_hold (guards_of (refusal_of p) p n) came.0) in
       let lands = daemon_call_lands j kept w c legal in
       recalled_file w k now.0 bytes given r there
       (subst (λ o. AllHold (guards_always (end_recall j.daemon k bytes now.0 o) (end_recall_needs (map.get j.workers w) k bytes))) there legal)
-      (subst (λ o. PayloadLands (after_ending w (end_recall j.daemon k bytes now.0 o).ends j) (prepared (end_recall j.daemon k bytes now.0 o)).payload) there lands)
-      (subst (λ o. (prepared (end_recall j.daemon k bytes now.0 o)).answer ≡ answer.Recalled given) there came.2)
+      (subst (λ o. PayloadLands (after_ending w (end_recall j.daemon k bytes now.0 o).ends j) (prepared_plan (end_recall j.daemon k bytes now.0 o)).payload) there lands)
+      (subst (λ o. (prepared_plan (end_recall j.daemon k bytes now.0 o)).answer ≡ answer.Recalled given) there came.2)
 
   -- an inode that is there has a path
   named_by : (n : Ino) (i : Inode) → map.get j.daemon.tables.inodes n.0 ≡ Some i → (path : List ℕ) × (map.get j.daemon.tables.names path ≡ Some n)

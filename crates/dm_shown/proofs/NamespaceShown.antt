@@ -20,10 +20,10 @@ use Rattle.dm_durable.specs.Entries.{is_stored}
 use Rattle.dm_durable.specs.Tables.{Numbered, Named}
 use Rattle.dm_model.specs.declared.state.Joint.{Joint}
 use Rattle.dm_model.specs.Files.{asked_by}
-use Rattle.dm_plain.specs.Namespace.{Namespace, Dumped, Dumps, Files}
+use Rattle.dm_plain.specs.Namespace.{Namespace, PlainDump, Dumps, Files}
 use Rattle.dm_invariant.specs.Files.{DumpedRightly, HeldRightly}
-use Rattle.dm_invariant.specs.Kept.{Kept}
-use Rattle.dm_invariant.specs.StandsFor.{bitfile_bytes, copy_or, dump_of, dumped_bytes as bytes_of_dumped, file_bytes, first_copy, inode_bytes, plain_of, shown, young_dumps}
+use Rattle.dm_invariant.specs.Kept.{InvariantHolds}
+use Rattle.dm_invariant.specs.StandsFor.{bitfile_bytes, copy_or, dump_of, dumped_bytes as bytes_of_dumped, file_bytes, first_copy, inode_bytes, plain_of, shown_namespace, young_dumps}
 use Rattle.dm_invariant.proofs.Assembled.{first_copy_is_content}
 use Rattle.dm_shown.proofs.DumpsShown.{SameYoung, dump_shown, dumped_bytes, young_in}
 use Rattle.dm_shown.proofs.FilesShown.{bytes_in, bytes_named, content_bytes, files_shown, get-shown}
@@ -53,13 +53,13 @@ get-young now dumps name =
     (λ x tied. ap (λ q. passes (λ k d. is_young now d) q (map.get dumps q)) (sym (paths.same name x tied)))
     ∙ row_if now name (map.get dumps name)
 
-dump_if : (now : ℕ) (name : List ℕ) (o : Option Dumped)
+dump_if : (now : ℕ) (name : List ℕ) (o : Option PlainDump)
     → cond (passes (λ k d. is_young_at now d.made d.least) name o) o None ≡ young_in now o
 dump_if now name None = refl
 dump_if now name (Some d) = refl
 
 -- the dumps of a namespace that users may see
-pub get-seen : (ns : Namespace) (name : List ℕ) → map.get (shown ns).dumps name ≡ young_in ns.now (map.get ns.dumps name)
+pub get-seen : (ns : Namespace) (name : List ℕ) → map.get (shown_namespace ns).dumps name ≡ young_in ns.now (map.get ns.dumps name)
 get-seen ns name =
     let keeps : List ℕ → Bool = λ q. passes (λ k d. is_young_at ns.now d.made d.least) q (map.get ns.dumps q) in
     map.get-retain_keys ns.dumps keeps name (λ x tied. ap keeps (sym (paths.same name x tied)))
@@ -72,13 +72,13 @@ is_false true is = cc
 is_false false is = refl
 
 -- a dump with other files, and a namespace of its parts
-abbrev dump_with : Dump → Files → Dumped
+abbrev dump_with : Dump → Files → PlainDump
 dump_with d files = record { made = d.made.0; least = d.least; files = files }
 
 abbrev namespace_of : Files → Dumps → ℕ → ℕ → Namespace
 namespace_of files dumps now age = record { files = files; dumps = dumps; now = now; age = age }
 
-module _ (j : Joint) (kept : Kept j) where
+module _ (j : Joint) (kept : InvariantHolds j) where
   -- a bitfile whose entry has every copy stored and isn't being dropped
   whole_bytes : (b : ℕ) (e : Entry) → map.get j.daemon.tables.entries b ≡ Some e → is_stored e ≡ true → e.dropping ≡ false
       → bitfile_bytes j b ≡ copy_or (map.get j.history.contents b)
@@ -154,25 +154,25 @@ module _ (j : Joint) (kept : Kept j) where
   -- ---- both ways
 
   -- a namespace of which users see what the state stands for agrees with its tables
-  pub agrees_of : (ns : Namespace) → plain_of j ≡ shown ns → Agrees j.daemon.tables j.history.contents ns
+  pub agrees_of : (ns : Namespace) → plain_of j ≡ shown_namespace ns → Agrees j.daemon.tables j.history.contents ns
   agrees_of ns same =
       let now : ns.now ≡ j.daemon.tables.time.0 = sym (ap (λ (n : Namespace). n.now) same) in
       record {
         files = sym (ap (λ (n : Namespace). n.files) same) ∙ plain_files;
         dumps = λ name.
-            sym (subst (λ n. map.get (shown ns).dumps name ≡ young_in n (map.get ns.dumps name)) now (get-seen ns name))
+            sym (subst (λ n. map.get (shown_namespace ns).dumps name ≡ young_in n (map.get ns.dumps name)) now (get-seen ns name))
             ∙ sym (ap (λ (n : Namespace). map.get n.dumps name) same) ∙ get-plain_dump name;
         now = now;
         age = sym (ap (λ (n : Namespace). n.age) same);
       }
 
   -- and one that agrees is such a one
-  pub seen_of : (ns : Namespace) → Agrees j.daemon.tables j.history.contents ns → plain_of j ≡ shown ns
+  pub seen_of : (ns : Namespace) → Agrees j.daemon.tables j.history.contents ns → plain_of j ≡ shown_namespace ns
   seen_of ns a =
-      let dumps : (plain_of j).dumps ≡ (shown ns).dumps =
+      let dumps : (plain_of j).dumps ≡ (shown_namespace ns).dumps =
       same_rows paths _ _ (λ name. get-plain_dump name ∙ sym (a.dumps name) ∙ sym (ap (λ n. young_in n (map.get ns.dumps name)) a.now)
       ∙ sym (get-seen ns name)) in
       ap (λ d. namespace_of (plain_of j).files d j.daemon.tables.time.0 j.daemon.tables.age) dumps
-      ∙ ap (λ f. namespace_of f (shown ns).dumps j.daemon.tables.time.0 j.daemon.tables.age) (plain_files ∙ sym a.files)
-      ∙ ap (λ n. namespace_of ns.files (shown ns).dumps n j.daemon.tables.age) (sym a.now)
-      ∙ ap (λ n. namespace_of ns.files (shown ns).dumps ns.now n) (sym a.age)
+      ∙ ap (λ f. namespace_of f (shown_namespace ns).dumps j.daemon.tables.time.0 j.daemon.tables.age) (plain_files ∙ sym a.files)
+      ∙ ap (λ n. namespace_of ns.files (shown_namespace ns).dumps n j.daemon.tables.age) (sym a.now)
+      ∙ ap (λ n. namespace_of ns.files (shown_namespace ns).dumps ns.now n) (sym a.age)

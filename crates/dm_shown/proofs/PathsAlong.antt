@@ -40,13 +40,13 @@ use Rattle.dm_model.specs.DaemonShare.{daemon_after_ending, with_request}
 use Rattle.dm_model.specs.Effects.{after_ending}
 use Rattle.dm_model.specs.Files.{File, file_at}
 use Rattle.dm_model.specs.Guards.{AllHold, Guarded}
-use Rattle.dm_model.specs.Plan.{Plan, Needs, guards_always, guards_of, if_accepted, illegal_call, illegal_fault, prepared, refusal_of}
-use Rattle.dm_model.specs.Step.{Entered, Run, Stepped, after_call, after_fault, after_landing, landed_doubt, landed_in, needs_of, outcome_of, plan_of, step}
+use Rattle.dm_model.specs.Plan.{Plan, Needs, guards_always, guards_of, if_accepted, illegal_call, illegal_fault, prepared_plan, refusal_of}
+use Rattle.dm_model.specs.Step.{RunEntry, Run, Stepped, after_call, after_fault, after_landing, doubt_outcome, landing_outcome_in, needs_of, outcome_of, plan_of, step}
 use Rattle.dm_model.proofs.Shares.{OpensOf, PaysOf}
 use Rattle.dm_plain.specs.Namespace.{Namespace, bytes_of}
 use Rattle.dm_durable.specs.declared.group.GroupRecord.{GroupRecord}
 use Rattle.dm_invariant.specs.Doubts.{MayLandIf}
-use Rattle.dm_invariant.specs.Kept.{Kept}
+use Rattle.dm_invariant.specs.Kept.{InvariantHolds}
 use Rattle.dm_landing.proofs.CallFiles.{found}
 use Rattle.dm_landing.proofs.CallsLanded.{PayloadLands, daemon_call_lands}
 use Rattle.dm_effects.proofs.BeginningCalls.{always_hold}
@@ -179,26 +179,26 @@ lands_may j i (Some (payload.Group g r)) same lands = absurd lands
 
 -- ---- an event
 
-module _ (path : List ℕ) (k : ℕ) (j : Joint) (w : ℕ) (kept : Kept j) (a : Asked path k j.daemon) where
+module _ (path : List ℕ) (k : ℕ) (j : Joint) (w : ℕ) (kept : InvariantHolds j) (a : Asked path k j.daemon) where
   daemon_call_asked : (c : DaemonCall) (i : Joint) (x : Answer) → step j w (event.Call (call.Daemon c)) ≡ Stepped i x → Asked path k i.daemon
   daemon_call_asked c i x is =
       let p = daemon_plan j.daemon c in
       let n = daemon_needs j.sides (map.get j.workers w) j.history j.daemon c in
-      let o = outcome_is (illegal_call p n) (after_call w (prepared p) j) i (prepared p).answer x is in
+      let o = outcome_is (illegal_call p n) (after_call w (prepared_plan p) j) i (prepared_plan p).answer x is in
       let hold = all_hold (guards_of (refusal_of p) p n) o.0 in
       let lands = daemon_call_lands j kept w c (always_hold p n (refusal_of p) hold) in
       let same : (after_ending w p.ends j).daemon.tables ≡ j.daemon.tables = ended_tables j.daemon p.ends in
       subst (λ (y : Joint). Asked path k y.daemon) o.1
-      (call_asked path k j.daemon (prepared p) (lands_may j (after_ending w p.ends j) (prepared p).payload same lands)
+      (call_asked path k j.daemon (prepared_plan p) (lands_may j (after_ending w p.ends j) (prepared_plan p).payload same lands)
       (new_if j.daemon.next_request p n (refusal_of p) (new_of j.daemon c) hold) a)
 
-  other_call_asked : (g : GroupId) (p : Plan) (n : Needs) (i : Joint) (x : Answer) → PaysOf g (prepared p).payload → OpensOf g (prepared p).opens
-      → outcome_of (illegal_call p n) (after_call w (prepared p) j) (prepared p).answer ≡ Stepped i x → Asked path k i.daemon
+  other_call_asked : (g : GroupId) (p : Plan) (n : Needs) (i : Joint) (x : Answer) → PaysOf g (prepared_plan p).payload → OpensOf g (prepared_plan p).opens
+      → outcome_of (illegal_call p n) (after_call w (prepared_plan p) j) (prepared_plan p).answer ≡ Stepped i x → Asked path k i.daemon
   other_call_asked g p n i x pays opens is =
-      let o = outcome_is (illegal_call p n) (after_call w (prepared p) j) i (prepared p).answer x is in
+      let o = outcome_is (illegal_call p n) (after_call w (prepared_plan p) j) i (prepared_plan p).answer x is in
       subst (λ (y : Joint). Asked path k y.daemon) o.1
-      (call_asked path k j.daemon (prepared p) (group_may g j.daemon (prepared p).payload pays)
-      (group_new g j.daemon.next_request (prepared p).opens opens) a)
+      (call_asked path k j.daemon (prepared_plan p) (group_may g j.daemon (prepared_plan p).payload pays)
+      (group_new g j.daemon.next_request (prepared_plan p).opens opens) a)
 
   fault_asked : (c : Call) (healed checkpointed : Bool) (i : Joint) (x : Answer) → step j w (event.Fault c healed checkpointed) ≡ Stepped i x
       → Asked path k i.daemon
@@ -206,13 +206,13 @@ module _ (path : List ℕ) (k : ℕ) (j : Joint) (w : ℕ) (kept : Kept j) (a : 
       let p = plan_of j c in
       let n = needs_of j w c in
       let far = healed && checkpointed in
-      let o = outcome_is (illegal_fault p n) (after_fault w (prepared p) far j) i _ x is in
+      let o = outcome_is (illegal_fault p n) (after_fault w (prepared_plan p) far j) i _ x is in
       subst (λ (y : Joint). Asked path k y.daemon) o.1
-      (doubted_asked path k (daemon_after_ending p.ends j.daemon) (cond far (prepared p).payload None) (ended_asked path k j.daemon p.ends a))
+      (doubted_asked path k (daemon_after_ending p.ends j.daemon) (cond far (prepared_plan p).payload None) (ended_asked path k j.daemon p.ends a))
 
   landing_asked : (i : Joint) (x : Answer) (o : Option DaemonRecord)
       → MayLandIf j.daemon.tables j.daemon.requests j.history.contents j.daemon.cap j.sides o
-      → landed_doubt j component.Daemon (option_map (λ r. payload.Daemon r) o) ≡ Stepped i x → Asked path k i.daemon
+      → doubt_outcome j component.Daemon (option_map (λ r. payload.Daemon r) o) ≡ Stepped i x → Asked path k i.daemon
   landing_asked i x None may is = absurd (cc)
   landing_asked i x (Some r) may is =
       let l = landed_is j i component.Daemon (Some (payload.Daemon r)) x is in
@@ -222,7 +222,7 @@ module _ (path : List ℕ) (k : ℕ) (j : Joint) (w : ℕ) (kept : Kept j) (a : 
       (paid_asked path k (record j.daemon { doubt = None }) (Some (payload.Daemon r)) may.follow.step (healed_asked path k j.daemon true component.Daemon a))
 
   group_landing_asked : (g : GroupId) (o : Option GroupRecord) (i : Joint) (x : Answer)
-      → landed_doubt j (component.Group g) (option_map (λ r. payload.Group g r) o) ≡ Stepped i x → Asked path k i.daemon
+      → doubt_outcome j (component.Group g) (option_map (λ r. payload.Group g r) o) ≡ Stepped i x → Asked path k i.daemon
   group_landing_asked g None i x is = absurd (cc)
   group_landing_asked g (Some r) i x is =
       let l = landed_is j i (component.Group g) (Some (payload.Group g r)) x is in
@@ -230,7 +230,7 @@ module _ (path : List ℕ) (k : ℕ) (j : Joint) (w : ℕ) (kept : Kept j) (a : 
       ap (λ p. after_landing (component.Group g) p j) (payload_is (payload.Group g r) l.0 l.1) ∙ l.2 in
       subst (λ (y : Joint). Asked path k y.daemon) same a
 
-  side_landing_asked : (g : GroupId) (o : Option Side) (i : Joint) (x : Answer) → landed_in j g o ≡ Stepped i x → Asked path k i.daemon
+  side_landing_asked : (g : GroupId) (o : Option Side) (i : Joint) (x : Answer) → landing_outcome_in j g o ≡ Stepped i x → Asked path k i.daemon
   side_landing_asked g None i x is = absurd (cc)
   side_landing_asked g (Some s) i x is = group_landing_asked g s.group.doubt i x is
 
@@ -251,7 +251,7 @@ module _ (path : List ℕ) (k : ℕ) (j : Joint) (w : ℕ) (kept : Kept j) (a : 
 
 -- ---- a run
 
-run_asked : (path : List ℕ) (k : ℕ) (j : Joint) (entries : List Entered) (i : Joint) → KeptAlong j entries
+run_asked : (path : List ℕ) (k : ℕ) (j : Joint) (entries : List RunEntry) (i : Joint) → KeptAlong j entries
     → AllByRecursion (λ e. GoesOn e.event) entries → Run j entries i → Asked path k j.daemon → Asked path k i.daemon
 run_asked path k j [] i kept on run a = subst (λ (y : Joint). Asked path k y.daemon) run a
 run_asked path k j (e ∷ es) i kept on run a =
@@ -270,8 +270,8 @@ new_asked path k d q name = record {
 
 begun_of : (path : List ℕ) (k : ℕ) (j : Joint) (w : ℕ) (f : File) (c : Contents) (l len : ℕ) (b : Bfid) (asked : List GroupId)
     → map.get j.daemon.tables.names path ≡ Some (record { 0 = f.number })
-    → (prepared (begin_recall_of j.daemon k f c)).answer ≡ answer.RecallBegun l b len asked
-    → Asked path k (after_call w (prepared (begin_recall_of j.daemon k f c)) j).daemon
+    → (prepared_plan (begin_recall_of j.daemon k f c)).answer ≡ answer.RecallBegun l b len asked
+    → Asked path k (after_call w (prepared_plan (begin_recall_of j.daemon k f c)) j).daemon
 begun_of path k j w f (Regular bytes) l len b asked name is = absurd (cc)
 begun_of path k j w f (Making bytes d) l len b asked name is = absurd (cc)
 begun_of path k j w f (Dual bytes d) l len b asked name is = absurd (cc)
@@ -280,8 +280,8 @@ begun_of path k j w f (Offline size d) l len b asked name is =
     new_asked path k (record j.daemon { doubt = None }) q name
 
 begun_at : (path : List ℕ) (k : ℕ) (j : Joint) (w : ℕ) (o : Option File) (l len : ℕ) (b : Bfid) (asked : List GroupId) → file_at j.daemon path ≡ o
-    → (prepared (begin_recall j.daemon k o)).answer ≡ answer.RecallBegun l b len asked
-    → Asked path k (after_call w (prepared (begin_recall j.daemon k o)) j).daemon
+    → (prepared_plan (begin_recall j.daemon k o)).answer ≡ answer.RecallBegun l b len asked
+    → Asked path k (after_call w (prepared_plan (begin_recall j.daemon k o)) j).daemon
 begun_at path k j w None l len b asked at is = absurd (cc)
 begun_at path k j w (Some f) l len b asked at is =
     let there = found j path f at in
@@ -293,14 +293,14 @@ recall_begun : (path : List ℕ) (k : ℕ) (j : Joint) (w : ℕ) (mid : Joint) (
 recall_begun path k j w mid l len b asked is =
     let p = daemon_plan j.daemon (daemon_call.BeginRecall path k) in
     let n = daemon_needs j.sides (map.get j.workers w) j.history j.daemon (daemon_call.BeginRecall path k) in
-    let o = outcome_is (illegal_call p n) (after_call w (prepared p) j) mid (prepared p).answer (answer.RecallBegun l b len asked) is in
+    let o = outcome_is (illegal_call p n) (after_call w (prepared_plan p) j) mid (prepared_plan p).answer (answer.RecallBegun l b len asked) is in
     subst (λ (y : Joint). Asked path k y.daemon) o.1 (begun_at path k j w (file_at j.daemon path) l len b asked refl o.2)
 
 -- ---- the path that was asked
 
 -- a recall that is answered has a request
 request_at : (j : Joint) (w k : ℕ) (bytes given : List ℕ) (now : Secs) (later : Joint) (o : Option OpenRequest) → map.get j.daemon.requests k ≡ o
-    → (prepared (end_recall j.daemon k bytes now.0 o)).answer ≡ answer.Recalled given → (r : OpenRequest) × (map.get j.daemon.requests k ≡ Some r)
+    → (prepared_plan (end_recall j.daemon k bytes now.0 o)).answer ≡ answer.Recalled given → (r : OpenRequest) × (map.get j.daemon.requests k ≡ Some r)
 request_at j w k bytes given now later None at is = absurd (cc)
 request_at j w k bytes given now later (Some r) at is = (r, at)
 
@@ -310,11 +310,11 @@ request_there : (j : Joint) (w k : ℕ) (bytes given : List ℕ) (now : Secs) (l
 request_there j w k bytes given now later is =
     let p = daemon_plan j.daemon (daemon_call.EndRecall k bytes now) in
     let n = daemon_needs j.sides (map.get j.workers w) j.history j.daemon (daemon_call.EndRecall k bytes now) in
-    let o = outcome_is (illegal_call p n) (after_call w (prepared p) j) later (prepared p).answer (answer.Recalled given) is in
+    let o = outcome_is (illegal_call p n) (after_call w (prepared_plan p) j) later (prepared_plan p).answer (answer.Recalled given) is in
     request_at j w k bytes given now later (map.get j.daemon.requests k) refl o.2
 
 -- what an ended recall answers is what the namespace has at the path at which it was begun
-pub asked_right : (path : List ℕ) (k : ℕ) (mid : Joint) (entries : List Entered) (last : Joint) (ns : Namespace) → KeptAlong mid entries
+pub asked_right : (path : List ℕ) (k : ℕ) (mid : Joint) (entries : List RunEntry) (last : Joint) (ns : Namespace) → KeptAlong mid entries
     → AllByRecursion (λ e. GoesOn e.event) entries → Run mid entries last → AgreesWith (files_of last) ns → Asked path k mid.daemon
     → (v : ℕ) (bytes given : List ℕ) (now : Secs) (later : Joint)
     → step last v (event.Call (call.Daemon (daemon_call.EndRecall k bytes now))) ≡ Stepped later (answer.Recalled given)
@@ -328,7 +328,7 @@ asked_right path k mid entries last ns kept on run agrees a v bytes given now la
 -- from the beginning of the recall
 pub begun_right : (path : List ℕ) (k : ℕ) (j : Joint) (w : ℕ) (mid : Joint) (l len : ℕ) (b : Bfid) (asked : List GroupId)
     → step j w (event.Call (call.Daemon (daemon_call.BeginRecall path k))) ≡ Stepped mid (answer.RecallBegun l b len asked)
-    → (entries : List Entered) (last : Joint) (ns : Namespace) → KeptAlong mid entries
+    → (entries : List RunEntry) (last : Joint) (ns : Namespace) → KeptAlong mid entries
     → AllByRecursion (λ e. GoesOn e.event) entries → Run mid entries last → AgreesWith (files_of last) ns
     → (v : ℕ) (bytes given : List ℕ) (now : Secs) (later : Joint)
     → step last v (event.Call (call.Daemon (daemon_call.EndRecall k bytes now))) ≡ Stepped later (answer.Recalled given)

@@ -25,7 +25,7 @@ use Rattle.dm_model.specs.declared.plan.Prepared.{Prepared}
 use Rattle.dm_model.specs.declared.state.Daemon.{Daemon}
 use Rattle.dm_model.specs.declared.state.History.{History}
 use Rattle.dm_model.specs.declared.state.Joint.{Joint}
-use Rattle.dm_model.specs.Effects.{after_ending, after_failed_mark, after_healing, after_mark, after_opening, after_payload, doubting}
+use Rattle.dm_model.specs.Effects.{after_ending, after_failed_mark, after_healing, after_mark, after_opening, after_payload, joint_with_doubt}
 use Rattle.dm_model.specs.Effects.{history_after_group_step, history_after_step}
 use Rattle.dm_model.specs.Project.{plain_run, steps_of_record}
 use Rattle.dm_model.specs.Step.{after_call, after_fault, after_landing, after_stop}
@@ -33,7 +33,7 @@ use Rattle.dm_model.proofs.Shares.{PaysOf}
 use Rattle.dm_plain.specs.Namespace.{Namespace}
 use Rattle.dm_plain.specs.declared.step.PlainStep.{PlainStep}
 use Rattle.dm_invariant.specs.Doubts.{MayLand, StepNeeds}
-use Rattle.dm_invariant.specs.Kept.{Kept}
+use Rattle.dm_invariant.specs.Kept.{InvariantHolds}
 use Rattle.dm_shown.proofs.NamespaceShown.{Agrees}
 use Rattle.dm_shown.proofs.RecordsShown.{TakesRight, contents_after, record_shown, restart_shown}
 
@@ -146,7 +146,7 @@ marked_files w j (mark.Read g b offset bytes) = refl
 marked_files w j (mark.Source g m bytes) = refl
 marked_files w j (mark.Deleted g b) = refl
 
-doubted_files : (j : Joint) (p : Option Payload) → files_of (doubting p j) ≡ files_of j
+doubted_files : (j : Joint) (p : Option Payload) → files_of (joint_with_doubt p j) ≡ files_of j
 doubted_files j None = refl
 doubted_files j (Some (payload.Daemon r)) = refl
 doubted_files j (Some (payload.Group g r)) = refl
@@ -182,7 +182,7 @@ landed_files j c p = paid_files (after_healing true c j) (Some p) ∙ ap (files_
 -- ---- what they leave of the namespace
 
 -- a record that follows does its plain steps
-pub record_agrees : (j : Joint) (ns : Namespace) (r : DaemonRecord) → Kept j → Follows (files_of j) r → AgreesWith (files_of j) ns
+pub record_agrees : (j : Joint) (ns : Namespace) (r : DaemonRecord) → InvariantHolds j → Follows (files_of j) r → AgreesWith (files_of j) ns
     → AgreesWith (files_paid (Some (payload.Daemon r)) (files_of j)) (plain_run (steps_of_record r) ns)
 record_agrees j ns r kept follow a =
     record_shown j.daemon.tables j.history.contents j.daemon.cap ns r kept.files follow.may follow.right a

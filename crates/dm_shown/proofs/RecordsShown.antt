@@ -30,8 +30,8 @@ use Rattle.dm_durable.specs.Tables.{Numbered, Named}
 use Rattle.dm_model.specs.Effects.{contents_with}
 use Rattle.dm_model.specs.Files.{file_named, file_of}
 use Rattle.dm_model.specs.Project.{plain_run, steps_of_record, steps_of_step}
-use Rattle.dm_plain.specs.Namespace.{Namespace, Dumped, Files, bytes_in as in_dump, dump_of, written}
-use Rattle.dm_plain.specs.Steps.{bytes_dumped, copy_of, lowered, restored, with_age, with_dump, without_dump, without_file}
+use Rattle.dm_plain.specs.Namespace.{Namespace, PlainDump, Files, bytes_in as in_dump, dump_of, with_file}
+use Rattle.dm_plain.specs.Steps.{bytes_dumped, copy_of, with_lower_least, with_restored_file, with_age, with_dump, without_dump, without_file}
 use Rattle.dm_invariant.specs.Doubts.{TakenRight}
 use Rattle.dm_invariant.specs.Files.{FilesKept, HeldRightly}
 use Rattle.dm_invariant.specs.StandsFor.{copy_or}
@@ -167,7 +167,7 @@ files_copied names entries inodes contents held =
     ∙ copy_named entries inodes contents (map.get names q) held
     ∙ sym (get-shown names inodes contents q))
 
-abbrev dumped : ℕ → ℕ → Files → Dumped
+abbrev dumped : ℕ → ℕ → Files → PlainDump
 dumped made least files = record { made = made; least = least; files = files }
 
 copy_is : (t : DaemonTables) (contents : Numbered (List ℕ)) (ns : Namespace)
@@ -207,8 +207,8 @@ module _ (t : DaemonTables) (contents : Numbered (List ℕ)) (cap : ℕ) (kept :
   number_apart path change next (Some n) at q m is same = kept.state.names_apart q path m n is at same
 
   write_shown : (path : List ℕ) (change : ℕ) (bytes : List ℕ) → MayWrite t path change bytes → Agrees Later contents ns
-      → Agrees (after_step Later (Write path change bytes)) contents (written path bytes ns)
-  unfolding written
+      → Agrees (after_step Later (Write path change bytes)) contents (with_file path bytes ns)
+  unfolding with_file
   write_shown path change bytes may a =
       let n : Ino = record { 0 = number_or (map.get t.names path) change } in
       let i : Inode = record { change = change; contents = Regular bytes } in
@@ -390,8 +390,8 @@ module _ (t : DaemonTables) (contents : Numbered (List ℕ)) (cap : ℕ) (kept :
       ∙ get-mapped paths (λ path f. dumped_bytes contents f) dump.files path ∙ ap (option_map (dumped_bytes contents)) has
 
   file_put : (target : List ℕ) (change : ℕ) (file : DumpInode) → change ≡ t.change + 1 → Agrees Later contents ns
-      → Agrees (after_restore Later target change (Some file)) contents (written target (dumped_bytes contents file) ns)
-  unfolding written
+      → Agrees (after_restore Later target change (Some file)) contents (with_file target (dumped_bytes contents file) ns)
+  unfolding with_file
   file_put target change file next a =
       let n : Ino = record { 0 = change } in
       let i : Inode = record { change = change; contents = as_restored file } in
@@ -406,19 +406,19 @@ module _ (t : DaemonTables) (contents : Numbered (List ℕ)) (cap : ℕ) (kept :
       }
 
   restore_shown : (name path target : List ℕ) (change : ℕ) → MayRestore t time.0 name path target change → Agrees Later contents ns
-      → Agrees (after_step Later (Restore name path target change)) contents (restored name path target ns)
-  unfolding restored
+      → Agrees (after_step Later (Restore name path target change)) contents (with_restored_file name path target ns)
+  unfolding with_restored_file
   restore_shown name path target change may a =
       let found : file_in (map.get t.dumps name) path ≡ Some may.file = ap (λ o. file_in o path) may.known ∙ may.has in
-      subst (λ o. Agrees (after_restore Later target change o) contents (restored name path target ns)) (sym found)
-      (subst (λ o. Agrees (after_restore Later target change (Some may.file)) contents (option_map_or (λ bytes. written target bytes ns) o ns))
+      subst (λ o. Agrees (after_restore Later target change o) contents (with_restored_file name path target ns)) (sym found)
+      (subst (λ o. Agrees (after_restore Later target change (Some may.file)) contents (option_map_or (λ bytes. with_file target bytes ns) o ns))
       (sym (bytes_there name path may.dump may.file may.known may.young may.has a)) (file_put target change may.file may.next.next a))
 
   -- ---- ages
 
   aged_row : (age : ℕ) (o : Option DumpRow)
-      → option_map (lowered age) (option_map (dump_shown contents) o) ≡ option_map (dump_shown contents) (option_map (with_least age) o)
-  unfolding lowered
+      → option_map (with_lower_least age) (option_map (dump_shown contents) o) ≡ option_map (dump_shown contents) (option_map (with_least age) o)
+  unfolding with_lower_least
   aged_row age None = refl
   aged_row age (Some d) = refl
 
@@ -427,7 +427,7 @@ module _ (t : DaemonTables) (contents : Numbered (List ℕ)) (cap : ℕ) (kept :
   age_shown age a = record {
     files = a.files;
     dumps = λ q.
-        ap (young_in time.0) (get-mapped paths (λ name. lowered age) ns.dumps q)
+        ap (young_in time.0) (get-mapped paths (λ name. with_lower_least age) ns.dumps q)
         ∙ same_lowered time.0 age (map.get ns.dumps q) (option_map (dump_shown contents) (map.get t.dumps q)) (a.dumps q)
         ∙ ap (young_in time.0) (aged_row age (map.get t.dumps q))
         ∙ sym (ap (λ o. young_in time.0 (option_map (dump_shown contents) o)) (get-mapped paths (λ name d. with_least age d) t.dumps q));

@@ -29,12 +29,12 @@ use Rattle.dm_model.specs.declared.state.Reusing.{Reusing}
 use Rattle.dm_model.specs.declared.state.Side.{Side}
 use Rattle.dm_model.specs.GroupCalls.{is_label, is_reuse_label, reuse, reuse_needs, was_relabelled}
 use Rattle.dm_model.specs.Guards.{AllHold}
-use Rattle.dm_model.specs.Plan.{guards_always, guards_of, illegal_call, prepared, refusal_of}
+use Rattle.dm_model.specs.Plan.{guards_always, guards_of, illegal_call, prepared_plan, refusal_of}
 use Rattle.dm_model.specs.Step.{after_call, side_needs, side_plan}
-use Rattle.dm_invariant.specs.Among.{Among}
+use Rattle.dm_invariant.specs.Among.{IsAmong}
 use Rattle.std.proofs.lemmas.Option.{same_Some}
 use Rattle.dm_invariant.specs.Doubts.{GroupMayLand, GroupMayLandIf, GroupStepNeeds}
-use Rattle.dm_invariant.specs.Kept.{Kept, SideKept, committed_in, deleted_in}
+use Rattle.dm_invariant.specs.Kept.{InvariantHolds, SideKept, committed_in, deleted_in}
 use Rattle.dm_invariant.specs.Moves.{IsReadyAt}
 use Rattle.dm_landing.proofs.VolumesOnward.{ready_later}
 use Rattle.dm_effects.proofs.BeginningCalls.{always_hold}
@@ -44,7 +44,7 @@ use Rattle.dm_shown.proofs.EventsShown.{all_hold, outcome_is}
 -- ---- an empty volume, and one that is held, has nothing
 
 -- a chunk of those that join has bytes
-chunk_some : (from to : ℕ) (cs : List Chunk) (c : Chunk) → Joins from cs to → Among c cs → 0 < c.len
+chunk_some : (from to : ℕ) (cs : List Chunk) (c : Chunk) → Joins from cs to → IsAmong c cs → 0 < c.len
 chunk_some from to [] c joins among = absurd among
 chunk_some from to (d ∷ ds) c joins among =
     elim among [
@@ -66,7 +66,7 @@ no_zone : (now hold tip : ℕ) (held : Option Secs) (zone end : ℕ) → IsReady
 no_zone now hold tip None zone end ready usable behind some within = omega (arith, ready, behind, some, within)
 no_zone now hold tip (Some since) zone end ready usable behind some within = absurd (cc)
 
-module _ (j : Joint) (kept : Kept j) (g : ℕ) (s : Side) (side : map.get j.sides g ≡ Some s) where
+module _ (j : Joint) (kept : InvariantHolds j) (g : ℕ) (s : Side) (side : map.get j.sides g ≡ Some s) where
   abbrev K : SideKept j.daemon.tables.entries j.history.contents j.history.taken j.daemon.requests g (committed_in (map.get j.history.groups g))
       (deleted_in (map.get j.history.groups g)) s
   K = kept.sides g s side
@@ -150,7 +150,7 @@ module _ (j : Joint) (kept : Kept j) (g : ℕ) (s : Side) (side : map.get j.side
       let mine = subst (λ x. GroupMayLand g j.daemon.tables.entries j.history.contents j.history.taken (deleted_in (map.get j.history.groups g)) s x) (sym same) may in
       doubt_dead_of m r vsn epoch version r.step is mine.follow.step mine.needs
 
-pub landed_dead : (j : Joint) → Kept j → LandedDead j
+pub landed_dead : (j : Joint) → InvariantHolds j → LandedDead j
 landed_dead j kept = λ w m g s r vsn epoch version later a side doubt is landed.
     doubt_dead j kept g.0 s side m r vsn epoch version s.group.doubt doubt is (kept.sides g.0 s side).doubt
 
@@ -161,12 +161,12 @@ relabel_held : (w now m : ℕ) (j : Joint) (g : GroupId) (s : Side) (x : Reusing
 relabel_held w now m j g s x is hold =
     (subst (λ o. AllHold (guards_always (reuse g s.group m now o) (reuse_needs now (map.get s.mounts m)))) is hold).0
 
-pub reused_dead : (j : Joint) → Kept j → ReusedDead j
+pub reused_dead : (j : Joint) → InvariantHolds j → ReusedDead j
 reused_dead j kept = λ w m g now s x later side job is.
     let c = group_call.Reuse m now in
     let p = side_plan g c (map.get j.sides g.0) in
     let n = side_needs (map.get j.workers w) j.history g c (map.get j.sides g.0) in
-    let legal = (outcome_is (illegal_call p n) (after_call w (prepared p) j) later (prepared p).answer answer.Reused is).0 in
+    let legal = (outcome_is (illegal_call p n) (after_call w (prepared_plan p) j) later (prepared_plan p).answer answer.Reused is).0 in
     let hold = always_hold p n (refusal_of p) (all_hold (guards_of (refusal_of p) p n) legal) in
     let here =
     subst (λ o. AllHold (guards_always (side_plan g c o) (side_needs (map.get j.workers w) j.history g c o))) side hold in

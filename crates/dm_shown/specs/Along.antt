@@ -3,13 +3,13 @@ use Rattle.std.specs.Prelude.{List, [], ◌∷◌}
 use Rattle.dm_model.specs.declared.call.Event.{Event}
 use Rattle.dm_model.specs.declared.call.Event.TheVariants as event
 use Rattle.dm_model.specs.declared.state.Joint.{Joint}
-use Rattle.dm_model.specs.Step.{Entered, state_after, step}
-use Rattle.dm_invariant.specs.Kept.{Kept}
+use Rattle.dm_model.specs.Step.{RunEntry, state_after, step}
+use Rattle.dm_invariant.specs.Kept.{InvariantHolds}
 
 -- each state of the run keeps the invariant: that before the first entry, those between, and the last
-abbrev pub KeptAlong : Joint → List Entered → Type 0
-KeptAlong j [] = Kept j
-KeptAlong j (e ∷ es) = Kept j × KeptAlong (state_after j (step j e.worker e.event)) es
+abbrev pub KeptAlong : Joint → List RunEntry → Type 0
+KeptAlong j [] = InvariantHolds j
+KeptAlong j (e ∷ es) = InvariantHolds j × KeptAlong (state_after j (step j e.worker e.event)) es
 
 -- the program goes on
 abbrev pub GoesOn : Event → Type 0

@@ -29,7 +29,7 @@ use Rattle.dm_model.specs.declared.state.Reusing.{Reusing}
 use Rattle.dm_model.specs.declared.state.Side.{Side}
 use Rattle.dm_model.specs.Files.{is_recall}
 use Rattle.dm_model.specs.Step.{Stepped, step}
-use Rattle.dm_invariant.specs.Among.{Among}
+use Rattle.dm_invariant.specs.Among.{IsAmong}
 use Rattle.dm_invariant.specs.Doubts.{InGroup}
 use Rattle.dm_invariant.specs.Moves.{IsReadyAt}
 
@@ -40,7 +40,7 @@ pub record RequestThere (j : Joint) (r : OpenRequest) : Type 0 where
   pub entry : Entry
   pub is : map.get j.daemon.tables.entries r.bfid.0 ≡ Some entry
   pub lasting : entry.dropping ≡ false
-  pub copies : is_recall r.kind ≡ true → (g : GroupId) → Among g (groups_asked entry) → InGroup j.sides g.0 r.bfid.0
+  pub copies : is_recall r.kind ≡ true → (g : GroupId) → IsAmong g (groups_asked entry) → InGroup j.sides g.0 r.bfid.0
 
 -- ---- young dumps
 
@@ -51,7 +51,7 @@ pub record BitfileThere (j : Joint) (b len : ℕ) : Type 0 where
   pub sized : entry.len ≡ len
   pub whole : is_stored entry ≡ true
   pub lasting : entry.dropping ≡ false
-  pub copies : (g : GroupId) → Among g (groups_asked entry) → InGroup j.sides g.0 b
+  pub copies : (g : GroupId) → IsAmong g (groups_asked entry) → InGroup j.sides g.0 b
   pub untaken : map.get j.history.taken b ≡ None
 
 -- a file of a dump is there
@@ -72,8 +72,8 @@ pub record VolumeDead (s : Side) (vsn : List ℕ) (m now : ℕ) : Type 0 where
   pub volume : VolumeRow
   pub is : map.get s.group.tables.volumes vsn ≡ Some volume
   pub ready : IsReadyAt now s.group.conf.hold (tip_in s.group.tips vsn volume) volume.held
-  pub dead : EachRow s.group.tables.bitfiles (λ b row. (c : Chunk) → Among c row.chunks → c.vsn.0 ≢ vsn)
-  pub unreserved : EachRow s.group.reservations (λ n r. (p : Piece) → Among p r.pieces → p.vsn.0 ≢ vsn)
+  pub dead : EachRow s.group.tables.bitfiles (λ b row. (c : Chunk) → IsAmong c row.chunks → c.vsn.0 ≢ vsn)
+  pub unreserved : EachRow s.group.reservations (λ n r. (p : Piece) → IsAmong p r.pieces → p.vsn.0 ≢ vsn)
   pub unmounted : EachRow s.mounts (λ n x. x.vsn.0 ≡ vsn → n ≡ m)
 
 -- so is each volume that a reuse is accepted of, in the state before it

@@ -12,7 +12,7 @@ use Rattle.dm_proto.specs.declared.heard.Heard.TheVariants as heard
 use Rattle.dm_host.specs.Count.{Rose}
 use Rattle.dm_host.specs.Disk.{Torn, Written, part}
 use Rattle.dm_host.proofs.Outside.{part-torn_before, part-within}
-use Rattle.dm_plain.specs.Namespace.{Namespace, bytes_of, written}
+use Rattle.dm_plain.specs.Namespace.{Namespace, bytes_of, with_file}
 use Rattle.dm_plain.proofs.Laws.{bytes_of-written-same, bytes_of-written-other}
 use Rattle.dm_site.specs.declared.file.File.{File}
 use Rattle.dm_site.specs.declared.file.Form.{Form}
@@ -20,7 +20,7 @@ use Rattle.dm_site.specs.declared.file.Form.TheVariants as form
 use Rattle.dm_site.specs.Files.{Sets}
 use Rattle.dm_site.specs.State.{State, Holds, HoldsIf, Agrees}
 use Rattle.dm_site.specs.Zones.{IsZone}
-use Rattle.dm_site.specs.Rules.{Writes, bfid_of, tip_after}
+use Rattle.dm_site.specs.Rules.{Writes, own_bfid, tip_after}
 use Rattle.dm_site.specs.Session.{Counts, ReadIs, plain_step}
 use Rattle.dm_site.proofs.Tables.{cases_path}
 
@@ -130,7 +130,7 @@ pub zone_some : (zone bytes : List ℕ) → IsZone zone bytes → 0 < length zon
 zone_some zone [] z some = absurd (omega (arith, ap length (z.none refl), some))
 zone_some zone (b ∷ bytes) z some = omega arith
 
-pub bfid_is : (bfid : Bfid) (counter : ℕ) → bfid.0 ≡ 1 * 2 ^ 64 + counter → bfid ≡ bfid_of counter
+pub bfid_is : (bfid : Bfid) (counter : ℕ) → bfid.0 ≡ 1 * 2 ^ 64 + counter → bfid ≡ own_bfid counter
 bfid_is bfid counter e = ap (λ (n : ℕ). let b : Bfid = record { 0 = n } in b) e
 
 -- the zone that was handed on is that of the file's bytes
@@ -141,8 +141,8 @@ zone_as zone zone' bytes bytes' e f z = subst (λ (t : List ℕ). IsZone t bytes
 pub write_agrees : (plain : Namespace) (old new : State) (image path bytes : List ℕ) (answer : Reply) → Writes old path bytes 0 answer new → Agrees plain old image
     → Agrees (plain_step plain (heard.Command (command.Write path bytes)) answer) new image
 write_agrees plain old new image path bytes (reply.Changed change) w a =
-    subst (λ (tip : ℕ). AgreesAt (written path bytes plain) new.file_at image tip) (sym w.1.tip)
-    (agrees_set plain (written path bytes plain) old.file_at new.file_at old.tip old.tip image image path _ (keeps_same old.tip image image refl) w.1.sets
+    subst (λ (tip : ℕ). AgreesAt (with_file path bytes plain) new.file_at image tip) (sym w.1.tip)
+    (agrees_set plain (with_file path bytes plain) old.file_at new.file_at old.tip old.tip image image path _ (keeps_same old.tip image image refl) w.1.sets
     (λ other ne. bytes_of-written-other path other bytes plain ne) (bytes_of-written-same path bytes plain) a)
 write_agrees plain old new image path bytes (reply.Limit limit) w a = subst (λ (s : State). Agrees plain s image) (sym w.1.same) a
 write_agrees plain old new image path bytes reply.NoMemory w a = subst (λ (s : State). Agrees plain s image) (sym w.same) a

@@ -1,5 +1,5 @@
 -- What a command is answered, and what it leaves.
-use Rattle.std.specs.Prelude.{◌≡◌, ◌⊎◌, ℕ, ◌+◌, ◌*◌, ◌^◌, ◌<◌, ◌≤◌, if◌then◌else◌, ◌==◌, List, [], ◌∷◌, length, Option, Some, None}
+use Rattle.std.specs.Prelude.{◌≡◌, ◌⊎◌, ℕ, ◌+◌, ◌<◌, ◌≤◌, if◌then◌else◌, ◌==◌, List, [], ◌∷◌, length, Option, Some, None}
 use Rattle.dm_base.specs.declared.command.Command.{Command}
 use Rattle.dm_base.specs.declared.command.Command.TheVariants as command
 use Rattle.dm_base.specs.declared.reply.Reply.{Reply}
@@ -10,6 +10,7 @@ use Rattle.dm_base.specs.declared.identifier.Bfid.{Bfid}
 use Rattle.dm_base.specs.declared.identifier.GroupId.{GroupId}
 use Rattle.dm_base.specs.declared.error.CopyFault.{CopyFault}
 use Rattle.dm_base.specs.Limits.{file_limit, number_limit}
+use Rattle.dm_rules.specs.Numbers.{bfid_of}
 use Rattle.dm_rules.specs.Room.{room}
 use Rattle.dm_rules.specs.Version.{first_version}
 use Rattle.dm_proto.specs.declared.heard.Heard.{Heard}
@@ -33,8 +34,8 @@ abbrev pub zone_front : ℕ
 zone_front = 80
 
 -- the identifier of the site's bitfile with this counter; the site is number 1
-abbrev pub bfid_of : ℕ → Bfid
-bfid_of counter = record { 0 = 1 * 2 ^ 64 + counter }
+abbrev pub own_bfid : ℕ → Bfid
+own_bfid counter = record { 0 = bfid_of 1 counter }
 
 abbrev pub group_of : GroupId
 group_of = record { 0 = 1 }
@@ -87,8 +88,8 @@ pub record IsStored (old : State) (path : List ℕ) (faults : ℕ) (bfid : Bfid)
   pub may : MayBePut old path bytes change
   pub fits : length bytes ≤ room first_version volume_size old.tip chunk_size
   pub no_fault : faults ≡ 0
-  pub bfid_is : bfid ≡ bfid_of old.next_counter
-  pub sets : Sets old.file_at new.file_at path (record { change = change; form = form.Offline (length bytes) (bfid_of old.next_counter) (old.tip + zone_front) })
+  pub bfid_is : bfid ≡ own_bfid old.next_counter
+  pub sets : Sets old.file_at new.file_at path (record { change = change; form = form.Offline (length bytes) (own_bfid old.next_counter) (old.tip + zone_front) })
   pub took : Took old (tip_after old.tip (length bytes)) new
 
 -- the volume's device reported faults: the file stays, and the zone's range is left unused
@@ -202,7 +203,7 @@ IsContent other plain = Unit {0}
 pub record CanStore (tip : ℕ) (bytes zone : List ℕ) (len : ℕ) (bfid : Bfid) (counter : ℕ) : Type 0 where
   pub is_zone : IsZone zone bytes
   pub len_is : len ≡ length bytes
-  pub bfid_is : bfid ≡ bfid_of counter
+  pub bfid_is : bfid ≡ own_bfid counter
   pub fits : length bytes ≤ room first_version volume_size tip chunk_size
 
 -- A step: what is heard, the faults that the device reported meanwhile, the reply, and what it leaves. A command that

@@ -8,7 +8,7 @@ use Rattle.dm_proto.specs.declared.heard.Heard.{Heard}
 use Rattle.dm_proto.specs.declared.heard.Heard.TheVariants as heard
 use Rattle.dm_reply.specs.Text.{text_of}
 use Rattle.dm_host.specs.Count.{raised}
-use Rattle.dm_plain.specs.Namespace.{Namespace, no_files, written, bytes_of}
+use Rattle.dm_plain.specs.Namespace.{Namespace, no_files, with_file, bytes_of}
 use Rattle.dm_site.specs.State.{State}
 use Rattle.dm_site.specs.Rules.{Step}
 
@@ -37,7 +37,7 @@ replies_of entries = flat_map (λ e. text_of e.reply) entries
 
 -- What the entry does to the plain namespace: an accepted write alone changes it.
 abbrev pub plain_step : Namespace → Heard → Reply → Namespace
-plain_step plain (heard.Command (command.Write path bytes)) (reply.Changed change) = written path bytes plain
+plain_step plain (heard.Command (command.Write path bytes)) (reply.Changed change) = with_file path bytes plain
 plain_step plain heard reply = plain
 
 abbrev pub plain_from : Namespace → List Entry → Namespace

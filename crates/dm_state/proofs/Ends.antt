@@ -6,7 +6,7 @@ use Rattle.dm_base.specs.declared.volume.Chunk.{Chunk}
 use Rattle.dm_state.specs.declared.group.VolumeRow.{VolumeRow}
 use Rattle.dm_tables.specs.Rows.{adjust}
 use Rattle.dm_state.specs.Tables.{Named}
-use Rattle.dm_rules.specs.Numbers.{narrowed}
+use Rattle.dm_rules.specs.Numbers.{as_word}
 use Rattle.dm_state.specs.Group.{ends_raised, written_to}
 
 pub raised_more : (chunks : List Chunk) (i : ℕ) (d : Chunk) (volumes new whole : Named VolumeRow) → i < length chunks → new ≡ adjust volumes (get_or chunks i d).vsn.0 (written_to (get_or chunks i d)) → ends_raised (drop i chunks) volumes ≡ whole → ends_raised (drop (i + 1) chunks) new ≡ whole
@@ -22,5 +22,5 @@ pub greater_max : (m n : ℕ) → max m n ≡ m + (n - m)
 greater_max m n = omega arith
 
 -- a sum that stands at the last value of 64 bits
-pub narrow_min : (n : ℕ) → min n 18446744073709551615 ≡ narrowed n
+pub narrow_min : (n : ℕ) → min n 18446744073709551615 ≡ as_word n
 narrow_min n = omega arith

@@ -13,7 +13,7 @@ use Rattle.dm_tables.specs.Rows.{adjust}
 use Rattle.dm_state.specs.Tables.{Numbered, Named}
 use Rattle.dm_state.specs.Inodes.{bitfile_in, bytes_online, making, put_ended, reformed}
 use Rattle.dm_state.specs.Entries.{let_go, let_go_if, new_entry}
-use Rattle.dm_rules.specs.Numbers.{narrowed}
+use Rattle.dm_rules.specs.Numbers.{as_word}
 use Rattle.dm_state.specs.Daemon.{number_or, with_inode, file_written, put_begun, put_over}
 
 -- what a call gives is also what is equal to it
@@ -37,9 +37,9 @@ written t names path name change ino bytes copy put named number copied =
     ∙ ap (λ n. made (numbered fresh) n copy) number
     ∙ ap (made (numbered fresh) fresh) copied
 
-pub begun : (t : DaemonTables) (b : Bfid) (groups : List GroupId) (n : ℕ) (x : Inode) (inodes : Numbered Inode) (middle entries : Numbered Entry) (named : Option ℕ) (e : Entry) (counter : ℕ) → counter ≡ narrowed (t.counter + 1) → inodes ≡ insert t.inodes n (reformed (making b) x) → named ≡ bitfile_in (Some x) → middle ≡ let_go_if t.entries inodes t.time.0 named → entries ≡ insert middle b.0 e → e ≡ new_entry (length (bytes_online x.contents)) groups → record t { counter = counter; inodes = inodes; entries = entries } ≡ put_begun t b groups n (Some x)
+pub begun : (t : DaemonTables) (b : Bfid) (groups : List GroupId) (n : ℕ) (x : Inode) (inodes : Numbered Inode) (middle entries : Numbered Entry) (named : Option ℕ) (e : Entry) (counter : ℕ) → counter ≡ as_word (t.counter + 1) → inodes ≡ insert t.inodes n (reformed (making b) x) → named ≡ bitfile_in (Some x) → middle ≡ let_go_if t.entries inodes t.time.0 named → entries ≡ insert middle b.0 e → e ≡ new_entry (length (bytes_online x.contents)) groups → record t { counter = counter; inodes = inodes; entries = entries } ≡ put_begun t b groups n (Some x)
 begun t b groups n x inodes middle entries named e counter rose changed is left put asked =
-    let rows : Numbered Inode → Numbered Entry → DaemonTables = λ m es. record t { counter = narrowed (t.counter + 1); inodes = m; entries = es } in
+    let rows : Numbered Inode → Numbered Entry → DaemonTables = λ m es. record t { counter = as_word (t.counter + 1); inodes = m; entries = es } in
     let was : Option ℕ = bitfile_in (Some x) in
     let made : Entry = new_entry (length (bytes_online x.contents)) groups in
     ap (λ k. record t { counter = k; inodes = inodes; entries = entries }) rose

@@ -11,7 +11,7 @@ use Rattle.dm_state.specs.declared.daemon.DaemonStep.{DaemonStep}
 use Rattle.dm_state.specs.declared.daemon.DaemonStep.TheVariants.{Write, Remove, BeginPut, Stored, EndPut, Release, Taken}
 use Rattle.dm_state.specs.declared.daemon.DaemonRecord.{DaemonRecord}
 use Rattle.dm_tables.specs.Rows.{adjust}
-use Rattle.dm_rules.specs.Numbers.{narrowed}
+use Rattle.dm_rules.specs.Numbers.{as_word}
 use Rattle.dm_state.specs.Inodes.{bitfile_in, bytes_online, making, put_ended, released, recalled, reformed}
 use Rattle.dm_state.specs.Entries.{let_go, let_go_if, new_entry, stored_by}
 
@@ -55,7 +55,7 @@ put_begun t b groups n None = t
 put_begun t b groups n (Some i) =
     let inodes = map.insert t.inodes n (reformed (making b) i) in
     record t {
-      counter = narrowed (t.counter + 1);
+      counter = as_word (t.counter + 1);
       inodes = inodes;
       entries = map.insert (let_go_if t.entries inodes t.time.0 (bitfile_in (Some i))) b.0 (new_entry (length (bytes_online i.contents)) groups);
     }

@@ -10,7 +10,7 @@ use Rattle.dm_state.specs.declared.group.GroupStep.TheVariants.{Volume, Commit}
 use Rattle.dm_state.specs.declared.group.GroupRecord.{GroupRecord}
 use Rattle.dm_tables.specs.Rows.{adjust}
 use Rattle.dm_rules.specs.Label.{first_zone}
-use Rattle.dm_rules.specs.Numbers.{greater, narrowed}
+use Rattle.dm_rules.specs.Numbers.{greater, as_word}
 use Rattle.dm_state.specs.Tables.{Named}
 
 -- a volume that was labelled for the first time
@@ -19,7 +19,7 @@ new_volume slot size = record { slot = slot; size = size; epoch = 1; end = first
 
 -- the volume is written up to behind the chunk at least
 abbrev pub written_to : Chunk → VolumeRow → VolumeRow
-written_to c v = record v { end = greater v.end (narrowed (c.place + c.len)) }
+written_to c v = record v { end = greater v.end (as_word (c.place + c.len)) }
 
 -- each chunk raises the end of its volume, where that is lower
 unfoldable pub ends_raised : List Chunk → Named VolumeRow → Named VolumeRow

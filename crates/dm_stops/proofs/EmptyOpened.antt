@@ -29,11 +29,11 @@ use Rattle.dm_model.specs.declared.state.Image.{Image}
 use Rattle.dm_model.specs.declared.state.Mounted.{Mounted}
 use Rattle.dm_model.specs.declared.state.MountState.{MountState}
 use Rattle.dm_model.specs.declared.state.Side.{Side}
-use Rattle.dm_invariant.specs.Among.{Among}
+use Rattle.dm_invariant.specs.Among.{IsAmong}
 use Rattle.dm_invariant.specs.Kept.{committed_in, deleted_in}
 use Rattle.dm_invariant.specs.Mounts.{mounted_of}
 use Rattle.dm_invariant.specs.Opened.{Fits, Opened, SideFits, SideOpened}
-use Rattle.dm_invariant.specs.Places.{Has, Live, Kept, Target, Doubted, Owner}
+use Rattle.dm_invariant.specs.Places.{HasPlace, Live, Reserving, Target, Doubted, Owner}
 use Rattle.dm_invariant.specs.Sound.{GroupSound, Sound}
 use Rattle.dm_invariant.specs.Volumes.{HasImage}
 use Rattle.dm_invariant.proofs.LookUps.{none_in_empty}
@@ -45,7 +45,7 @@ use Rattle.dm_stops.specs.FirstConf.{FirstConf}
 -- a group of the configuration, under its number
 record IsNew (groups : List GroupConf) (g : ℕ) (s : Side) : Type 0 where
   conf : GroupConf
-  among : Among conf groups
+  among : IsAmong conf groups
   number : conf.group.0 ≡ g
   new : s ≡ new_side conf
 
@@ -57,9 +57,9 @@ sides_new (c ∷ cs) =
     (λ g s is. let r = sides_new cs g s is in record { conf = r.conf; among = inr r.among; number = r.number; new = r.new })
 
 -- nobody has a place of a new group
-nobody : (o : Owner) (vsn : List ℕ) (place : ℕ) → Has map.empty map.empty map.empty None o vsn place → ⊥
+nobody : (o : Owner) (vsn : List ℕ) (place : ℕ) → HasPlace map.empty map.empty map.empty None o vsn place → ⊥
 nobody (Live b offset) vsn place has = none_in_empty nat_cmp map.empty b has.row refl has.is
-nobody (Kept n offset) vsn place has = none_in_empty nat_cmp map.empty n has.reserved refl has.is
+nobody (Reserving n offset) vsn place has = none_in_empty nat_cmp map.empty n has.reserved refl has.is
 nobody (Target job) vsn place has = none_in_empty nat_cmp map.empty job has.moving refl has.is
 nobody (Doubted offset) vsn place has = has.among
 
@@ -176,7 +176,7 @@ no_bytes conf =
     let dumps = total-empty (slice_cmp nat_cmp) dump_size in
     omega (arith, files, dumps)
 
-side_fits : (conf : DaemonConf) (groups : List GroupConf) → FirstConf conf groups → (g : ℕ) (c : GroupConf) → Among c groups → c.group.0 ≡ g
+side_fits : (conf : DaemonConf) (groups : List GroupConf) → FirstConf conf groups → (g : ℕ) (c : GroupConf) → IsAmong c groups → c.group.0 ≡ g
     → SideFits g (new_side c)
 side_fits conf groups f g c among number =
     let fits = f.groups_fit c among in

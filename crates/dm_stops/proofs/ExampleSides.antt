@@ -8,7 +8,7 @@ use Rattle.dm_base.specs.Naming.{IsSerial}
 use Rattle.dm_base.specs.Limits.{epoch_limit}
 use Rattle.dm_base.specs.declared.serial.Vsn.{Vsn}
 use Rattle.dm_base.specs.declared.volume.Chunk.{Chunk}
-use Rattle.dm_rules.specs.Known.{known_bytes, written}
+use Rattle.dm_rules.specs.Known.{known_bytes, known_with_write}
 use Rattle.dm_rules.specs.Label.{first_zone}
 use Rattle.dm_rules.specs.Version.{IsVersion, has_sum}
 use Rattle.dm_rules.proofs.Knowledge.{known_bytes-written}
@@ -23,12 +23,12 @@ use Rattle.dm_model.specs.declared.state.Mounted.{Mounted}
 use Rattle.dm_model.specs.declared.state.MountState.{MountState}
 use Rattle.dm_model.specs.declared.state.Side.{Side}
 use Rattle.dm_model.specs.GroupCalls.{part_of}
-use Rattle.dm_invariant.specs.Among.{Among}
-use Rattle.dm_invariant.specs.Assemble.{IsSumOf, assembled, assembled_of, bytes_and, known_of, known_on}
+use Rattle.dm_invariant.specs.Among.{IsAmong}
+use Rattle.dm_invariant.specs.Assemble.{IsSumOf, assembled_bytes, assembled_bytes_of, bytes_and, known_of, known_on}
 use Rattle.dm_invariant.specs.Catalogue.{LiesBefore}
 use Rattle.dm_invariant.specs.Mounts.{mounted_of}
 use Rattle.dm_invariant.specs.Opened.{SideFits, SideOpened}
-use Rattle.dm_invariant.specs.Places.{Has, HasLive, Live, Kept, Target, Doubted, Owner}
+use Rattle.dm_invariant.specs.Places.{HasPlace, HasLive, Live, Reserving, Target, Doubted, Owner}
 use Rattle.dm_invariant.specs.Sound.{AskedOf, ChunkSound, CopyRight, GroupSound, VolumeBounds}
 use Rattle.dm_invariant.specs.Volumes.{ConfFits, HasImage, VolumeKept}
 use Rattle.dm_invariant.proofs.LookUps.{none_in_empty}
@@ -86,11 +86,11 @@ module _ (g : ℕ) (vsn : Vsn) (v : VolumeRow) (place : ℕ) (sum : Option (List
   known_there : known_bytes (known_on s.images vsn.0) place 2 ≡ Some stored
   known_there =
       ap (λ o. known_bytes (known_of o) place 2) image_is
-      ∙ ap (λ p. known_bytes (written place stored map.empty) p 2) (sym (add-zero place))
+      ∙ ap (λ p. known_bytes (known_with_write place stored map.empty) p 2) (sym (add-zero place))
       ∙ known_bytes-written place stored map.empty 0 2 (omega arith)
 
-  pub copy_is : assembled s bitfile.0 ≡ Some stored
-  copy_is = ap (assembled_of s.images) row_is ∙ ap (λ o. bytes_and o (Some [])) known_there
+  pub copy_is : assembled_bytes s bitfile.0 ≡ Some stored
+  copy_is = ap (assembled_bytes_of s.images) row_is ∙ ap (λ o. bytes_and o (Some [])) known_there
 
   pub copy_right : CopyRight example_history.contents s bitfile.0 entry
   copy_right = record {
@@ -105,7 +105,7 @@ module _ (g : ℕ) (vsn : Vsn) (v : VolumeRow) (place : ℕ) (sum : Option (List
   lies : LiesBefore s.group.tables.volumes c
   lies = record { volume = v; is = volume_is; usable = r.held; behind = r.behind; within = r.within; sum = r.has }
 
-  chunk_sound : (d : Chunk) → Among d (c ∷ []) → ChunkSound example_history.contents s bitfile.0 d
+  chunk_sound : (d : Chunk) → IsAmong d (c ∷ []) → ChunkSound example_history.contents s bitfile.0 d
   chunk_sound d (inl same) = subst (λ x. ChunkSound example_history.contents s bitfile.0 x) (sym same) (record {
     lies = lies;
     sum = λ bytes is.
@@ -118,15 +118,15 @@ module _ (g : ℕ) (vsn : Vsn) (v : VolumeRow) (place : ℕ) (sum : Option (List
   live_is : (b offset : ℕ) (at : List ℕ) (p : ℕ) → HasLive s.group.tables.bitfiles b offset at p → (b ≡ bitfile.0) × (offset ≡ 0)
   live_is b offset at p has =
       let one = only_row numbers bitfile.0 b (row_of vsn place sum) has.row has.is in
-      (one.0, sym has.at ∙ chunk_at has.chunk (subst (λ (x : BitfileRow). Among has.chunk x.chunks) one.1 has.among))
+      (one.0, sym has.at ∙ chunk_at has.chunk (subst (λ (x : BitfileRow). IsAmong has.chunk x.chunks) one.1 has.among))
     where
-      chunk_at : (d : Chunk) → Among d (c ∷ []) → d.offset ≡ 0
+      chunk_at : (d : Chunk) → IsAmong d (c ∷ []) → d.offset ≡ 0
       chunk_at d (inl same) = ap (λ (x : Chunk). x.offset) same
       chunk_at d (inr none) = absurd none
 
-  owner_is : (o : Owner) (at : List ℕ) (p : ℕ) → Has s.group.tables.bitfiles map.empty map.empty None o at p → o ≡ Live bitfile.0 0
+  owner_is : (o : Owner) (at : List ℕ) (p : ℕ) → HasPlace s.group.tables.bitfiles map.empty map.empty None o at p → o ≡ Live bitfile.0 0
   owner_is (Live b offset) at p has = let l = live_is b offset at p has in λ i. Live (l.0 i) (l.1 i)
-  owner_is (Kept n offset) at p has = absurd (none_in_empty nat_cmp map.empty n has.reserved refl has.is)
+  owner_is (Reserving n offset) at p has = absurd (none_in_empty nat_cmp map.empty n has.reserved refl has.is)
   owner_is (Target job) at p has = absurd (none_in_empty nat_cmp map.empty job has.moving refl has.is)
   owner_is (Doubted offset) at p has = absurd has.among
 
@@ -156,7 +156,7 @@ module _ (g : ℕ) (vsn : Vsn) (v : VolumeRow) (place : ℕ) (sum : Option (List
     slots = λ p q x y is other same.
         (only_row paths vsn.0 p v x is).0 ∙ sym (only_row paths vsn.0 q v y other).0;
     bounds = each-insert paths (VolumeBounds s.group) map.empty vsn.0 v bounds (each-empty (slice_cmp nat_cmp) _);
-    chunks = each-insert numbers (λ b row. (d : Chunk) → Among d row.chunks → ChunkSound example_history.contents s b d) map.empty bitfile.0
+    chunks = each-insert numbers (λ b row. (d : Chunk) → IsAmong d row.chunks → ChunkSound example_history.contents s b d) map.empty bitfile.0
         (row_of vsn place sum) chunk_sound (each-empty nat_cmp _);
     zones = each-empty nat_cmp _;
     targets = each-empty nat_cmp _;
@@ -182,7 +182,7 @@ module _ (g : ℕ) (vsn : Vsn) (v : VolumeRow) (place : ℕ) (sum : Option (List
     format = r.version;
   }
     where
-      serials : (w : Vsn) → Among w (vsn ∷ []) → IsSerial w.0
+      serials : (w : Vsn) → IsAmong w (vsn ∷ []) → IsSerial w.0
       serials w (inl same) = subst (λ (x : Vsn). IsSerial x.0) (sym same) r.serial
       serials w (inr none) = absurd none
 

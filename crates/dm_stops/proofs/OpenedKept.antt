@@ -18,10 +18,10 @@ use Rattle.dm_model.specs.declared.state.OpenRequest.{OpenRequest}
 use Rattle.dm_model.specs.declared.state.Reserved.{Reserved}
 use Rattle.dm_model.specs.declared.state.Side.{Side}
 use Rattle.dm_model.specs.declared.state.Worker.{Worker}
-use Rattle.dm_invariant.specs.Assemble.{assembled_of}
+use Rattle.dm_invariant.specs.Assemble.{assembled_bytes_of}
 use Rattle.dm_invariant.specs.Catalogue.{BitfileKept, CatalogueKept}
 use Rattle.dm_invariant.specs.Files.{FilesKept}
-use Rattle.dm_invariant.specs.Kept.{Kept, SideOf, committed_in, deleted_in}
+use Rattle.dm_invariant.specs.Kept.{InvariantHolds, SideOf, committed_in, deleted_in}
 use Rattle.dm_invariant.specs.Mounts.{MountsKept}
 use Rattle.dm_invariant.specs.Moves.{MovesKept}
 use Rattle.dm_invariant.specs.Opened.{Opened, SideFits, SideOpened}
@@ -88,7 +88,7 @@ bitfile_kept : (d : Daemon) (h : History) (g : ℕ) (s : Side) (b : ℕ) (row : 
     → map.get d.tables.entries b ≡ Some e → asks e g ≡ true → CopyRight h.contents s b e
     → BitfileKept g d.tables.entries h.contents s.group.tables.volumes s.images b row
 bitfile_kept d h g s b row e k is entry asked copy =
-    let joined = assembled_known s.images row copy.bytes (sym (ap (assembled_of s.images) is) ∙ copy.copy) in
+    let joined = assembled_known s.images row copy.bytes (sym (ap (assembled_bytes_of s.images) is) ∙ copy.copy) in
     record {
       entry = e;
       is = entry;
@@ -175,7 +175,7 @@ files_kept j o = record {
 }
 
 -- an opened state keeps the invariant
-pub opened_kept : (j : Joint) → Opened j → Kept j
+pub opened_kept : (j : Joint) → Opened j → InvariantHolds j
 opened_kept j o =
     let d = j.daemon in
     record {

@@ -25,7 +25,7 @@ use Rattle.dm_model.specs.Step as machine
 use Rattle.dm_model.specs.Step.{Stepped, step}
 use Rattle.dm_invariant.specs.Doubts.{AllConfigured}
 use Rattle.dm_invariant.specs.Files.{DumpsKept, FilesKept, TakenKept}
-use Rattle.dm_invariant.specs.Kept.{Kept, SideOf, committed_in, deleted_in}
+use Rattle.dm_invariant.specs.Kept.{InvariantHolds, SideOf, committed_in, deleted_in}
 use Rattle.dm_invariant.specs.Requests.{RecallsKept, RequestsKept}
 use Rattle.dm_invariant.proofs.LookUps.{none_in_empty}
 use Rattle.dm_invariant.proofs.Options.{mapped_value, there_as}
@@ -48,7 +48,7 @@ pub record TablesStopped (j : Joint) (u : DaemonTables) : Type 0 where
   pub go : EntriesGo (NamedIn u.inodes) j.sides j.daemon.requests j.daemon.tables.time.0 j.daemon.tables.age NoneComes j.daemon.tables.entries u.entries
   pub ended : has_making u.inodes ≡ false
 
-module _ (j : Joint) (k : Kept j) where
+module _ (j : Joint) (k : InvariantHolds j) where
   tables_left : (o : Bool) → has_making j.daemon.tables.inodes ≡ o
       → TablesStopped j (cond o (after_record j.daemon.tables (record { time = j.daemon.tables.time; step = Restart })) j.daemon.tables)
   tables_left true making =
@@ -99,7 +99,7 @@ still_configured : (sides : Numbered Side) (groups : List GroupId) → AllConfig
 still_configured sides groups all = λ g among.
     there_as _ _ (sym (get-mapped numbers (λ g. side_after_stop) sides g.0)) (mapped_value side_after_stop (map.get sides g.0) (all g among))
 
-module _ (j : Joint) (k : Kept j) where
+module _ (j : Joint) (k : InvariantHolds j) where
   abbrev Left : DaemonTables
   Left = after_stop j.daemon.tables
 
@@ -123,7 +123,7 @@ module _ (j : Joint) (k : Kept j) where
       (λ n b put. put) (k.sides g s is))
 
   -- what the end of the program leaves keeps the invariant
-  pub stopped_kept : Kept (machine.after_stop j)
+  pub stopped_kept : InvariantHolds (machine.after_stop j)
   stopped_kept =
       let t = tables_stopped j k in
       record {
@@ -141,8 +141,8 @@ stop_is : (j k : Joint) (w : ℕ) (a : Answer) → step j w event.Stop ≡ Stepp
 stop_is j k w a is = cc
 
 -- so does a stop
-pub stopped_keeps : (j k : Joint) (w : ℕ) (a : Answer) → Kept j → step j w event.Stop ≡ Stepped k a → Kept k
-stopped_keeps j k w a kept is = subst Kept (stop_is j k w a is) (stopped_kept j kept)
+pub stopped_keeps : (j k : Joint) (w : ℕ) (a : Answer) → InvariantHolds j → step j w event.Stop ≡ Stepped k a → InvariantHolds k
+stopped_keeps j k w a kept is = subst InvariantHolds (stop_is j k w a is) (stopped_kept j kept)
 
 -- ---- what is left open
 

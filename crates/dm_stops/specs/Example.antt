@@ -8,7 +8,7 @@ use Rattle.dm_base.specs.declared.identifier.Bfid.{Bfid}
 use Rattle.dm_base.specs.declared.identifier.Ino.{Ino}
 use Rattle.dm_base.specs.declared.serial.Vsn.{Vsn}
 use Rattle.dm_base.specs.declared.volume.Chunk.{Chunk}
-use Rattle.dm_rules.specs.Known.{written}
+use Rattle.dm_rules.specs.Known.{known_with_write}
 use Rattle.dm_rules.specs.Label.{first_zone}
 use Rattle.dm_durable.specs.declared.daemon.Contents.TheVariants.{Regular, Dual, Offline}
 use Rattle.dm_durable.specs.declared.daemon.DaemonTables.{DaemonTables}
@@ -155,7 +155,7 @@ group_of g vsn v place sum = record {
 
 -- of the volume no more is known than the bytes of the chunk
 abbrev pub image_of : ℕ → Image
-image_of place = record { size = 256; known = written place stored map.empty }
+image_of place = record { size = 256; known = known_with_write place stored map.empty }
 
 abbrev pub side_of : ℕ → Vsn → VolumeRow → ℕ → Option (List ℕ) → Side
 side_of g vsn v place sum = record {

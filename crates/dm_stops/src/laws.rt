@@ -13,7 +13,7 @@ ghost use Rattle.dm_durable.specs.Inodes.{has_making};
 ghost use Rattle.dm_durable.specs.Tables.{Numbered};
 ghost use Rattle.dm_durable.specs.Volumes.{is_sparse_in};
 ghost use Rattle.dm_invariant.specs.Files.{DumpsKept, FilesKept};
-ghost use Rattle.dm_invariant.specs.Kept.{Kept};
+ghost use Rattle.dm_invariant.specs.Kept.{InvariantHolds};
 ghost use Rattle.dm_invariant.specs.Opened.{Opened};
 ghost use Rattle.dm_model.specs.declared.answer.Answer.{Answer};
 ghost use Rattle.dm_model.specs.declared.call.Event.TheVariants as event;
@@ -28,7 +28,7 @@ ghost use Rattle.dm_stops.specs.FirstConf.{FirstConf};
 /// What is kept of a state is kept by a stop and the start after it, which may come at any moment: whatever is open then,
 /// and whichever steps are in doubt (docs/DEFINITIONS.md, "The invariant"). Nothing is open after it, and each put has ended.
 pub fn stop_keeps()
-    ensures kept { (j k : Joint) (w : ℕ) (a : Answer) → Kept j → step j w event.Stop ≡ Stepped k a → Kept k }
+    ensures kept { (j k : Joint) (w : ℕ) (a : Answer) → InvariantHolds j → step j w event.Stop ≡ Stepped k a → InvariantHolds k }
     ensures closed { (j k : Joint) (w : ℕ) (a : Answer) → step j w event.Stop ≡ Stepped k a → Closed k }
 {}
 
@@ -47,7 +47,7 @@ pub fn restart_lands()
 /// An opened state, in which a run begins, has all that is kept along a run. The state before the first event is opened, where
 /// the configuration fits.
 pub fn opened_kept()
-    ensures kept { (j : Joint) → Opened j → Kept j }
+    ensures kept { (j : Joint) → Opened j → InvariantHolds j }
     ensures first { (conf : DaemonConf) (groups : List GroupConf) → FirstConf conf groups → Opened (empty_joint conf groups) }
 {}
 

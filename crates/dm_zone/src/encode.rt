@@ -3,7 +3,7 @@
 ghost use Rattle.std.specs.Prelude.{◌≡◌, ◌<◌, ◌≤◌, ◌+◌, ◌^◌, ◌++◌, drop, length, IfOk, OnOk};
 ghost use Rattle.std.specs.List.{flat_map};
 ghost use Rattle.dm_rules.specs.Version.{chunk_header as header_of};
-ghost use Rattle.dm_rules.specs.Zone.{chunk_count, chunk_front, chunk_sum as sum_of, chunk_text, cut, cut_into, weight, zone_front, zone_header, zone_length, zone_of};
+ghost use Rattle.dm_rules.specs.Zone.{chunk_count, chunk_front, chunk_sum as sum_of, chunk_text, chunk_split, chunk_split_into, weight, zone_front, zone_header, zone_length, zone_of};
 ghost use Rattle.dm_zone.specs.Grammar.{IsZone};
 
 use crate::number::{eight_bytes, four_bytes, sixteen_bytes};
@@ -30,7 +30,7 @@ pub fn encode_zone(
     requires count { chunk_count chunk (length bytes.now) < 2 ^ 32 }
     ensures spelled { IfOk result (λ v. v.items ≡ zone_of version epoch bfid.0 total offset bytes.now chunk) }
     // The chunks and the zone are of the grammar, so that `decode_zone` reads them again.
-    ensures grammar { OnOk result (IsZone version epoch (cut version bfid.0 total offset bytes.now chunk)) }
+    ensures grammar { OnOk result (IsZone version epoch (chunk_split version bfid.0 total offset bytes.now chunk)) }
     ensures long { IfOk result (λ v. length v.items ≡ zone_length version chunk (length bytes.now)) }
     // Where one chunk holds them the bytes stand behind both headers.
     ensures one { length bytes.now ≤ chunk → IfOk result (λ v. (length v.items ≡ weight version (length bytes.now))
@@ -73,7 +73,7 @@ fn put_chunks(
 ) -> Result<(), NoMemory>
     requires { offset + length bytes.now < 2 ^ 64 }
     ensures { OnOk result (
-        out.new.items ≡ out.old.items ++ flat_map chunk_text (cut_into version count bfid.0 total offset bytes.now chunk)
+        out.new.items ≡ out.old.items ++ flat_map chunk_text (chunk_split_into version count bfid.0 total offset bytes.now chunk)
         ) }
 {
     let mut rest = bytes;

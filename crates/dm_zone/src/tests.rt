@@ -1,5 +1,5 @@
 ghost use Rattle.std.specs.Prelude.{◌≡◌, ◌<◌, ◌≤◌, ◌+◌, ◌^◌, length, MatchResult};
-ghost use Rattle.dm_rules.specs.Zone.{chunk_count, cut, zone_header};
+ghost use Rattle.dm_rules.specs.Zone.{chunk_count, chunk_split, zone_header};
 ghost use Rattle.dm_zone.specs.Reading.{entries};
 
 use super::*;
@@ -245,7 +245,7 @@ fn written_and_read(
     requires chunk { 0 < chunk }
     requires within { offset + length bytes.now ≤ total }
     requires count { chunk_count chunk (length bytes.now) < 2 ^ 32 }
-    ensures { MatchResult result (λ z. (z.epoch ≡ epoch) × (z.chunks ≡ entries version zone_header (cut version bfid.0 total offset bytes.now chunk))) (λ e. e ≡ ZoneError.NoMemory) }
+    ensures { MatchResult result (λ z. (z.epoch ≡ epoch) × (z.chunks ≡ entries version zone_header (chunk_split version bfid.0 total offset bytes.now chunk))) (λ e. e ≡ ZoneError.NoMemory) }
 {
     let zone = match encode_zone(alloc, epoch, version, bfid, total, offset, bytes, chunk) {
         Ok(zone) => zone,

@@ -1,6 +1,6 @@
 use Rattle.std.proofs.Common.{◌≡◌, ℕ, ◌+◌, ap, ◌∙◌, arith}
 use Rattle.std.specs.FinMap as map
-use Rattle.dm_rules.specs.Known.{forgotten}
+use Rattle.dm_rules.specs.Known.{known_without_range}
 use Rattle.dm_changes.proofs.Places.{forgotten_begin, forgotten_on}
 use Rattle.dm_changes.proofs.marks.without_range.Goals as goal
 
@@ -15,4 +15,4 @@ loop-offset-preserved c =
 pub returns : goal.returns
 returns c =
     let whole : c.loop-offset.offset ≡ c.args.count = omega arith in
-    c.loop-offset.invariant ∙ ap (λ (n : ℕ). forgotten c.args.place n c.args.known) whole
+    c.loop-offset.invariant ∙ ap (λ (n : ℕ). known_without_range c.args.place n c.args.known) whole

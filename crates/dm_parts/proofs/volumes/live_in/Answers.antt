@@ -1,6 +1,6 @@
 use Rattle.std.proofs.Common.{None, arith, sym, ◌∙◌, [], ap, ◌+◌, ◌≡◌}
 use Rattle.std.proofs.lemmas.List.{drop_all}
-use Rattle.dm_rules.specs.Numbers.{narrowed}
+use Rattle.dm_rules.specs.Numbers.{as_word}
 use Rattle.dm_parts.specs.Volumes.{live_in, same_text}
 use Rattle.dm_parts.proofs.Lists.{drop_next}
 use Rattle.dm_parts.proofs.Told.{live_here, live_beside, live_end}
@@ -9,7 +9,7 @@ use Rattle.dm_parts.proofs.volumes.live_in.Goals.{then-eq, else-eq}
 
 pub loop-chunk-init : goal.loop-chunk-init
 loop-chunk-init c = record {
-  is = ap narrowed (let e : 0 + live_in c.args.vsn.now c.args.chunks.now ≡ live_in c.args.vsn.now c.args.chunks.now = omega arith in e);
+  is = ap as_word (let e : 0 + live_in c.args.vsn.now c.args.chunks.now ≡ live_in c.args.vsn.now c.args.chunks.now = omega arith in e);
   small = omega arith;
 }
 

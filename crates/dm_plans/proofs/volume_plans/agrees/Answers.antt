@@ -1,13 +1,13 @@
 use Rattle.std.proofs.Common.{◌≡◌, ◌+◌, arith, ap, sym, ◌∙◌, get_or}
 use Rattle.std.proofs.lemmas.List.{drop_all}
 use Rattle.std.specs.FinMap as map
-use Rattle.dm_rules.specs.Known.{agrees, may_be}
+use Rattle.dm_rules.specs.Known.{agrees_with_known, may_be}
 use Rattle.dm_parts.proofs.Lists.{drop_next}
 use Rattle.dm_plans.proofs.Written.{agrees_on, agrees_not, agrees_end}
 use Rattle.dm_plans.proofs.volume_plans.agrees.Goals as goal
 
 pub loop-index-init : goal.loop-index-init
-loop-index-init c = ap (λ n. agrees c.args.known.now n c.args.bytes.now) (let e : c.args.place + 0 ≡ c.args.place = omega arith in e)
+loop-index-init c = ap (λ n. agrees_with_known c.args.known.now n c.args.bytes.now) (let e : c.args.place + 0 ≡ c.args.place = omega arith in e)
 
 pub loop-index-preserved : goal.loop-index-preserved
 loop-index-preserved c =

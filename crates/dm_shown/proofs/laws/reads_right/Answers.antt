@@ -4,7 +4,7 @@ use Rattle.dm_shown.proofs.FilesRead.{online_right, recalled_right}
 use Rattle.dm_shown.proofs.NamespaceShown.{agrees_of}
 use Rattle.dm_shown.proofs.PathsAlong.{begun_right}
 use Rattle.dm_shown.proofs.RunsShown.{kept_first, kept_last, run_agrees}
-use Rattle.dm_model.specs.Project.{plain_run, projected}
+use Rattle.dm_model.specs.Project.{plain_run, run_steps}
 use Rattle.dm_shown.proofs.laws.reads_right.Goals as goal
 
 pub returns-clause-online : goal.returns-clause-online
@@ -18,11 +18,11 @@ returns-clause-chunks c j kept = chunks_right j kept
 
 pub returns-clause-online_after : goal.returns-clause-online_after
 returns-clause-online_after c j entries k ns kept run same =
-    online_right k (plain_run (projected j entries) ns) (run_agrees j entries k ns kept run (agrees_of j (kept_first j entries kept) ns same))
+    online_right k (plain_run (run_steps j entries) ns) (run_agrees j entries k ns kept run (agrees_of j (kept_first j entries kept) ns same))
 
 pub returns-clause-recalled_after : goal.returns-clause-recalled_after
 returns-clause-recalled_after c j entries k ns kept run same =
-    recalled_right k (plain_run (projected j entries) ns) (kept_last j entries k kept run)
+    recalled_right k (plain_run (run_steps j entries) ns) (kept_last j entries k kept run)
     (run_agrees j entries k ns kept run (agrees_of j (kept_first j entries kept) ns same))
 
 pub returns-clause-asked : goal.returns-clause-asked

@@ -1,7 +1,7 @@
 use Rattle.std.proofs.Common.{◌≡◌, ℕ, arith, ◌+◌, ◌*◌, ◌++◌, ◌∙◌, ap, drop, length}
 use Rattle.std.specs.List.{flat_map}
 use Rattle.dm_rules.specs.Version.{chunk_header}
-use Rattle.dm_rules.specs.Zone.{chunk_count, chunk_text, cut, cut_into, zone_front, zone_length}
+use Rattle.dm_rules.specs.Zone.{chunk_count, chunk_text, chunk_split, chunk_split_into, zone_front, zone_length}
 use Rattle.dm_rules.proofs.Sizes.{one_chunk, zone_alone}
 use Rattle.dm_zone.proofs.Cuts.{behind_headers, cut_zone, length-zone, zone_is}
 use Rattle.dm_zone.proofs.encode.encode_zone.Goals as goal
@@ -9,10 +9,10 @@ use Rattle.dm_zone.proofs.encode.encode_zone.Goals as goal
 -- what was written
 written : (c : goal.In_ok-put_chunks) → c.put_chunks.new.out.items
     ≡ zone_front c.args.epoch (chunk_count c.args.chunk (length c.args.bytes.now)) (zone_length c.args.version c.args.chunk (length c.args.bytes.now))
-    ++ flat_map chunk_text (cut c.args.version c.args.bfid.0 c.args.total c.args.offset c.args.bytes.now c.args.chunk)
+    ++ flat_map chunk_text (chunk_split c.args.version c.args.bfid.0 c.args.total c.args.offset c.args.bytes.now c.args.chunk)
 written c =
     let bytes = c.args.bytes.now in
-    let chunks = λ (n : ℕ). flat_map chunk_text (cut_into c.args.version n c.args.bfid.0 c.args.total c.args.offset bytes c.args.chunk) in
+    let chunks = λ (n : ℕ). flat_map chunk_text (chunk_split_into c.args.version n c.args.bfid.0 c.args.total c.args.offset bytes c.args.chunk) in
     let front = λ (h n : ℕ). zone_front c.args.epoch n (32 + h * n + length bytes) in
     let count = c.div_ceil-count.result in
     c.in_ok-put_chunks.ensures

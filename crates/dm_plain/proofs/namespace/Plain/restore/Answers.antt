@@ -1,6 +1,6 @@
 use Rattle.std.proofs.Common.{◌≡◌, ℕ, List, Some, ap, ◌∙◌}
 use Rattle.std.proofs.lemmas.Result.{on_ok_weaker}
-use Rattle.dm_plain.specs.Namespace.{written}
+use Rattle.dm_plain.specs.Namespace.{with_file}
 use Rattle.dm_plain.specs.Steps.{bytes_dumped}
 use Rattle.dm_plain.proofs.NamespaceEntries.{restored_bytes, restored_none}
 use Rattle.dm_plain.proofs.namespace.Plain.restore.Goals as goal
@@ -10,7 +10,7 @@ returns-in_ok-copied-in-Some-clause-ok c =
     let there : Some c.in_ok-bytes-in-Some.bytes ≡ bytes_dumped c.args.name.now c.args.path.now c.args.self.now =
     ap Some c.in_ok-bytes-in-Some.ensures ∙ c.in-Some.ensures in
     on_ok_weaker c.write.result
-    (λ done. done ∙ ap (λ (target : List ℕ). written target c.in_ok-bytes-in-Some.bytes c.args.self.now) c.in_ok-copied-in-Some.ensures
+    (λ done. done ∙ ap (λ (target : List ℕ). with_file target c.in_ok-bytes-in-Some.bytes c.args.self.now) c.in_ok-copied-in-Some.ensures
     ∙ restored_bytes c.args.name.now c.args.path.now c.args.target.now c.in_ok-bytes-in-Some.bytes c.args.self.now there)
     c.write.ensures.ok
 
