@@ -321,7 +321,7 @@ pub record SparesChunks (contents : Numbered (List ℕ)) (s : Side) (vsn : List 
 pub record MovesRight (contents : Numbered (List ℕ)) (moves : Numbered Moving) (images : Named Image) (mounts : Numbered MountState) : Type 0 where
   pub read : (job : ℕ) (x : Moving) (y : MountState) → map.get moves job ≡ Some x → map.get mounts x.source ≡ Some y
       → ReadRight contents x.bfid.0 x.from y.read
-  pub known_with_write : (job : ℕ) (x : Moving) (y : MountState) → map.get moves job ≡ Some x → map.get mounts x.target ≡ Some y
+  pub written : (job : ℕ) (x : Moving) (y : MountState) → map.get moves job ≡ Some x → map.get mounts x.target ≡ Some y
       → WrittenRight images x.version x.to y.written
 
 pub side_beside : (entries : Numbered Entry) (contents : Numbered (List ℕ)) (taken : Numbered (Unit {0})) (requests : Numbered OpenRequest)

@@ -56,7 +56,7 @@ pub record Reads {T : Type 0} (file place n : ℕ) (given : List ℕ) (old new :
   -- done, it gave what stands there, and zeros past the end
   pub bytes : Tells old file → OnOk result (given ≡ part (old.seen file) place n)
   -- so bytes that agree with all that is known
-  pub agrees_with_known : Tells old file → (known : Known) → Holds known (old.seen file) → OnOk result (IsTrue (agrees_with_known known place given))
+  pub agrees : Tells old file → (known : Known) → Holds known (old.seen file) → OnOk result (IsTrue (agrees_with_known known place given))
   -- it changed no content, also where it failed
   pub same : new.seen file ≡ old.seen file
   pub works : Works (File file) old new (Follows Same file old)
