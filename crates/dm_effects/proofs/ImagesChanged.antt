@@ -263,7 +263,7 @@ module _ (vsn : List ℕ) (place n : ℕ) (old new : Named Image) (beside : Know
     sized = k.sized;
     known = λ c among. chunk_beside vsn place n old new k.bytes c beside (spares c among) (k.known c among);
     sums = k.sums;
-    below = k.below;
+    hand = k.hand;
     undeleted = k.undeleted;
   }
 
@@ -292,6 +292,7 @@ module _ (vsn : List ℕ) (place n : ℕ) (s : Side) (images : Named Image) (cop
     puts = puts_beside vsn place n s.images images beside g entries contents s.group.tables.volumes s.group.tips deleted b.0
         (λ c. IsAmong c chunks) spares k.puts;
     whole = k.whole;
+    apart = k.apart;
     unreserved = k.unreserved;
   }
   needs_beside g entries contents taken deleted now (Delete b) spares k = k

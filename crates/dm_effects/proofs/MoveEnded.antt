@@ -54,7 +54,7 @@ has_left : (bitfiles : Numbered BitfileRow) (reservations : Numbered Reserved) (
 has_left bitfiles reservations moves doubt gone (Live b offset) vsn place has = has
 has_left bitfiles reservations moves doubt gone (Reserving n offset) vsn place has = has
 has_left bitfiles reservations moves doubt gone (Target job) vsn place has = target_left moves gone job vsn place has
-has_left bitfiles reservations moves doubt gone (Doubted offset) vsn place has = has
+has_left bitfiles reservations moves doubt gone (Doubted zone) vsn place has = has
 
 once_left : (contents : Numbered (List ℕ)) (volumes : Named VolumeRow) (images : Named Image) (reservations : Numbered Reserved)
     (moves : Numbered Moving) (gone epoch b : ℕ) (c : Chunk)

@@ -170,7 +170,7 @@ has_left : (bitfiles : Numbered BitfileRow) (reservations : Numbered Reserved) (
 has_left bitfiles reservations moves doubt n (Live b offset) vsn place has = has
 has_left bitfiles reservations moves doubt n (Reserving k offset) vsn place has = kept_left reservations n k offset vsn place has
 has_left bitfiles reservations moves doubt n (Target job) vsn place has = has
-has_left bitfiles reservations moves doubt n (Doubted offset) vsn place has = has
+has_left bitfiles reservations moves doubt n (Doubted zone) vsn place has = has
 
 once_left : (contents : Numbered (List ℕ)) (volumes : Named VolumeRow) (images : Named Image) (reservations : Numbered Reserved)
     (moves : Numbered Moving) (n epoch b : ℕ) (c : Chunk)

@@ -74,7 +74,7 @@ had_open : (bitfiles : Numbered BitfileRow) (reservations : Numbered Reserved) (
 had_open bitfiles reservations moves doubt (Live b offset) vsn place has = has
 had_open bitfiles reservations moves doubt (Reserving n offset) vsn place has = absurd (none_in_empty nat_cmp map.empty n has.reserved refl has.is)
 had_open bitfiles reservations moves doubt (Target job) vsn place has = absurd (none_in_empty nat_cmp map.empty job has.moving refl has.is)
-had_open bitfiles reservations moves doubt (Doubted offset) vsn place has = absurd has.among
+had_open bitfiles reservations moves doubt (Doubted zone) vsn place has = absurd has.among
 
 pub places_of_bitfiles : (bitfiles : Numbered BitfileRow) (reservations : Numbered Reserved) (moves : Numbered Moving) (doubt : Option GroupRecord)
     → PlacesKept bitfiles reservations moves doubt → PlacesKept bitfiles map.empty map.empty None

@@ -22,6 +22,7 @@ use Rattle.dm_invariant.specs.Assemble.{known_on}
 use Rattle.dm_invariant.specs.Kept.{SideKept}
 use Rattle.dm_invariant.specs.Moves.{ReadRight, TargetWritten, WrittenRight}
 use Rattle.dm_invariant.specs.Places.{Doubted, HasTarget, Reserving, Live, Owner, Target}
+use Rattle.dm_invariant.proofs.DoubtedZones.{doubt_in_hand, zone_covers}
 use Rattle.dm_invariant.proofs.Options.{same_row}
 use Rattle.dm_landing.proofs.VolumesOnward.{piece_among}
 use Rattle.dm_effects.proofs.Copies.{copies_same}
@@ -49,7 +50,7 @@ abbrev job_of_owner : Owner → ℕ → ℕ
 job_of_owner (Live b offset) other = other
 job_of_owner (Reserving n offset) other = other
 job_of_owner (Target job) other = job
-job_of_owner (Doubted offset) other = other
+job_of_owner (Doubted zone) other = other
 
 module _ (entries : Numbered Entry) (contents : Numbered (List ℕ)) (taken : Numbered (Unit {0})) (requests : Numbered OpenRequest)
     (g : ℕ) (committed deleted : Numbered (Unit {0})) (s : Side) (vsn : List ℕ) (m place : ℕ) (zone : List ℕ)
@@ -72,8 +73,10 @@ module _ (entries : Numbered Entry) (contents : Numbered (List ℕ)) (taken : Nu
     once = λ v c d there q covers low high. there.beside_targets fits.job q (record { same = refl; low = covers.low; high = covers.high })
         (subst (λ u. HasTarget s.group.moves fits.job u q) (sym covers.same) (zone_has q low high));
     doubted = λ d is q covers low high.
-        let e = kept.places (Doubted d.offset) (Target fits.job) vsn q
-        (record { chunk = d; among = is; at = refl; covers = covers }) (zone_has q low high) in cc;
+        let hand = doubt_in_hand g entries contents taken deleted s s.group.doubt kept.doubt d is in
+        let covered = zone_covers s.group.tables.volumes s.group.tips d vsn q hand covers in
+        let e = kept.places (Doubted d.zone) (Target fits.job) vsn q
+        (record { chunk = d; among = is; at = refl; covers = covered }) (zone_has q low high) in cc;
   }
 
   -- a move has this mount as its target only where it is the one

@@ -90,6 +90,7 @@ module _ (g : ℕ) (entries : Numbered Entry) (contents : Numbered (List ℕ)) (
   needs_fewer now (Commit b len chunks) n = record {
     puts = n.puts;
     whole = n.whole;
+    apart = n.apart;
     unreserved = λ i r is same. n.unreserved i r (f.reserved i r is) same;
   }
   needs_fewer now (Delete b) n = n

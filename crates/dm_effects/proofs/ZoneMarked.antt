@@ -37,6 +37,7 @@ use Rattle.dm_invariant.specs.Moves.{TargetWritten, WrittenRight}
 use Rattle.dm_invariant.specs.OnceLive.{StillThere}
 use Rattle.dm_invariant.specs.Places.{Doubted, HasReserving, Reserving, Live, Owner, Target}
 use Rattle.dm_invariant.specs.Reservations.{PiecesJoin, WrittenKept}
+use Rattle.dm_invariant.proofs.DoubtedZones.{doubt_in_hand, zone_covers}
 use Rattle.dm_invariant.proofs.Options.{same_row}
 use Rattle.dm_landing.proofs.VolumesOnward.{piece_among}
 use Rattle.dm_effects.proofs.Copies.{copies_changed}
@@ -127,13 +128,13 @@ abbrev number_of : Owner → ℕ
 number_of (Live b offset) = 0
 number_of (Reserving n offset) = n
 number_of (Target job) = 0
-number_of (Doubted offset) = 0
+number_of (Doubted zone) = 0
 
 abbrev offset_of : Owner → ℕ
 offset_of (Live b offset) = offset
 offset_of (Reserving n offset) = offset
 offset_of (Target job) = 0
-offset_of (Doubted offset) = offset
+offset_of (Doubted zone) = 0
 
 piece_has : (reservations : Numbered Reserved) (n : ℕ) (r : Reserved) (i : ℕ) (p : Piece) (vsn : List ℕ) (long q : ℕ)
     → map.get reservations n ≡ Some r → piece_at i r.pieces ≡ Some p → p.vsn.0 ≡ vsn
@@ -165,8 +166,10 @@ module _ (s : Side) (vsn : List ℕ) (place : ℕ) (zone : List ℕ) (b index : 
           (record { same = refl; low = covers.low; high = covers.high })
           (subst (λ u. HasReserving s.group.reservations fits.held.number fits.piece.offset u q) (sym covers.same) (zone_has q low high));
       doubted = λ d is q covers low high.
-          let e = kept.places (Doubted d.offset) (Reserving fits.held.number fits.piece.offset) vsn q
-          (record { chunk = d; among = is; at = refl; covers = covers }) (zone_has q low high) in cc;
+          let hand = doubt_in_hand g entries contents taken deleted s s.group.doubt kept.doubt d is in
+          let covered = zone_covers s.group.tables.volumes s.group.tips d vsn q hand covers in
+          let e = kept.places (Doubted d.zone) (Reserving fits.held.number fits.piece.offset) vsn q
+          (record { chunk = d; among = is; at = refl; covers = covered }) (zone_has q low high) in cc;
     }
 
     -- the reservation of the bitfile is the one that has the piece

@@ -12,8 +12,8 @@ use Rattle.dm_base.specs.declared.volume.Chunk.{Chunk}
 use Rattle.dm_base.specs.declared.volume.Piece.{Piece}
 use Rattle.dm_rules.specs.Known.{known_bytes}
 use Rattle.dm_rules.specs.Plan.{chunks_of, zone_end}
-use Rattle.dm_rules.specs.Version.{has_sum}
-use Rattle.dm_rules.specs.Zone.{zone_length}
+use Rattle.dm_rules.specs.Version.{chunk_header, has_sum}
+use Rattle.dm_rules.specs.Zone.{zone_header, zone_length}
 use Rattle.dm_tables.specs.Rows.{EachRow}
 use Rattle.dm_tables.proofs.Orders.{numbers}
 use Rattle.dm_tables.proofs.Rows.{one_row, removed}
@@ -37,9 +37,9 @@ use Rattle.dm_model.specs.GroupCalls.{all_written, are_sums_of, are_written, com
 use Rattle.dm_model.specs.SideShare.{side_after_ending}
 use Rattle.dm_invariant.specs.Among.{IsAmong}
 use Rattle.dm_invariant.specs.Assemble.{ChunkKnown, SumRight, known_on}
-use Rattle.dm_invariant.specs.Doubts.{CommitNeeds}
+use Rattle.dm_invariant.specs.Doubts.{ChunkInHand, CommitNeeds}
 use Rattle.dm_invariant.specs.Kept.{InvariantHolds, SideKept, committed_in, deleted_in}
-use Rattle.dm_invariant.specs.Places.{ChunkCovers, Doubted, HasPlace, HasReserving, Reserving as KeptPlace, Live, Owner, PlacesKept, Target}
+use Rattle.dm_invariant.specs.Places.{ChunkCovers, Doubted, HasPlace, HasReserving, Reserving as KeptPlace, Live, Owner, PlacesKept, Target, ZoneCovers}
 use Rattle.dm_invariant.specs.Requests.{RequestEntry}
 use Rattle.dm_invariant.specs.Reservations.{CopyKept, PiecesJoin, ReservationKept, WrittenKept, ZoneInHand}
 use Rattle.dm_invariant.proofs.Options.{same_row}
@@ -61,13 +61,13 @@ abbrev number_of : Owner → ℕ
 number_of (Live b offset) = 0
 number_of (KeptPlace n offset) = n
 number_of (Target job) = 0
-number_of (Doubted offset) = 0
+number_of (Doubted zone) = 0
 
 abbrev offset_of : Owner → ℕ
 offset_of (Live b offset) = offset
 offset_of (KeptPlace n offset) = offset
 offset_of (Target job) = 0
-offset_of (Doubted offset) = offset
+offset_of (Doubted zone) = 0
 
 -- ---- pieces
 
@@ -198,12 +198,16 @@ module _ (g : ℕ) (entries : Numbered Entry) (contents : Numbered (List ℕ)) (
       let d = subst (λ (x : Chunk). ChunkCovers x vsn place) (sym m.same) covers in
       record { same = d.same; low = d.low; high = d.high }
 
-  -- and so of the zone of its piece
-  zone_covers : (c : Chunk) (vsn : List ℕ) (place : ℕ) (m : ChunkMade c)
-      → ChunkCovers c vsn place → HasReserving s.group.reservations n m.piece.offset vsn place
-  zone_covers c vsn place m covers =
-      let d = base_covers c vsn place m covers in
-      let low = m.inside.low in
+  -- the zone that it names is that of its piece
+  made_zone : (c : Chunk) (m : ChunkMade c) → c.zone ≡ m.piece.zone
+  made_zone c m = sym (ap (λ (x : Chunk). x.zone) m.same) ∙ m.inside.zone
+
+  -- so what that zone has is of the zone of the piece
+  piece_covers : (c : Chunk) (vsn : List ℕ) (place : ℕ) (m : ChunkMade c)
+      → ZoneCovers c vsn place → HasReserving s.group.reservations n m.piece.offset vsn place
+  piece_covers c vsn place m covers =
+      let d = subst (λ (x : Chunk). ZoneCovers x vsn place) (sym m.same) covers in
+      let zone = m.inside.zone in
       let high = m.inside.high in
       let from = d.low in
       let to = d.high in
@@ -215,10 +219,26 @@ module _ (g : ℕ) (entries : Numbered Entry) (contents : Numbered (List ℕ)) (
         at = refl;
         covers = record {
           same = sym (ap (λ v. v.0) m.inside.volume) ∙ d.same;
-          low = omega (arith, low, from);
+          low = omega (arith, zone, from);
           high = omega (arith, high, to);
         };
       }
+
+  made_zone_covers : (c : Chunk) (vsn : List ℕ) (place : ℕ) → ChunkMade c → ChunkCovers c vsn place → ZoneCovers c vsn place
+  made_zone_covers c vsn place m covers =
+      let d = base_covers c vsn place m covers in
+      let zone = m.inside.zone in
+      let behind = m.inside.low in
+      let low = d.low in
+      subst (λ (x : Chunk). ZoneCovers x vsn place) m.same (record { same = d.same; low = omega (arith, zone, behind, low); high = d.high })
+
+  -- chunks whose zones share a place are of one piece
+  same_piece : (c d : Chunk) (vsn : List ℕ) (place : ℕ) (a : ChunkMade c) (b : ChunkMade d) → ZoneCovers c vsn place → ZoneCovers d vsn place
+      → a.piece ≡ b.piece
+  same_piece c d vsn place a b cover covers =
+      let owner = kept.places (KeptPlace n a.piece.offset) (KeptPlace n b.piece.offset) vsn place (piece_covers c vsn place a cover)
+      (piece_covers d vsn place b covers) in
+      one_piece 0 r.len r.pieces a.piece b.piece mine.joins a.among b.among (ap offset_of owner)
 
   -- no place is of two chunks
   made_apart : (c d : Chunk) (vsn : List ℕ) (place : ℕ) → IsAmong c all_chunks → IsAmong d all_chunks → ChunkCovers c vsn place → ChunkCovers d vsn place
@@ -226,30 +246,35 @@ module _ (g : ℕ) (entries : Numbered Entry) (contents : Numbered (List ℕ)) (
   made_apart c d vsn place one two cover covers =
       let a = chunk_made c one in
       let b = chunk_made d two in
-      let owner = kept.places (KeptPlace n a.piece.offset) (KeptPlace n b.piece.offset) vsn place (zone_covers c vsn place a cover)
-      (zone_covers d vsn place b covers) in
-      let same = one_piece 0 r.len r.pieces a.piece b.piece mine.joins a.among b.among (ap offset_of owner) in
+      let same = same_piece c d vsn place a b (made_zone_covers c vsn place a cover) (made_zone_covers d vsn place b covers) in
       let base = chunks_apart r.chunk b.piece a.base b.base vsn place mine.some (subst (λ p. IsAmong a.base (chunks_of r.chunk p)) same a.part) b.part
       (base_covers c vsn place a cover) (base_covers d vsn place b covers) in
       sym (ap (λ (x : Chunk). x.offset) a.same) ∙ base ∙ ap (λ (x : Chunk). x.offset) b.same
 
-  base_below : (p : Piece) (c : Chunk) (v : VolumeRow) → ChunkInside r.chunk p c → ZoneInHand s.group.tables.volumes s.group.tips r.chunk p
-      → map.get s.group.tables.volumes c.vsn.0 ≡ Some v → c.place + c.len ≤ tip_in s.group.tips c.vsn.0 v
-  base_below p c v inside hand is =
+  -- a chunk of a zone in hand is in hand
+  base_in_hand : (p : Piece) (c : Chunk) → ChunkInside r.chunk p c → ZoneInHand s.group.tables.volumes s.group.tips r.chunk p
+      → ChunkInHand s.group.tables.volumes s.group.tips (with_sum p.version copied.bytes c)
+  base_in_hand p c inside hand =
       let at : p.vsn.0 ≡ c.vsn.0 = sym (ap (λ x. x.0) inside.volume) in
-      let row : hand.volume ≡ v = one_row s.group.tables.volumes p.vsn.0 c.vsn.0 hand.volume v at hand.is is in
-      let within : zone_end r.chunk p ≤ tip_in s.group.tips c.vsn.0 v =
-      subst (λ x. zone_end r.chunk p ≤ tip_in s.group.tips c.vsn.0 x) row
-      (subst (λ x. zone_end r.chunk p ≤ tip_in s.group.tips x hand.volume) at hand.within) in
+      let within : zone_end r.chunk p ≤ tip_in s.group.tips c.vsn.0 hand.volume =
+      subst (λ x. zone_end r.chunk p ≤ tip_in s.group.tips x hand.volume) at hand.within in
+      let zone = inside.zone in
+      let behind = hand.behind in
       let high = inside.high in
-      omega (arith, high, within)
+      let low = subst (λ x. p.zone + zone_header + chunk_header x ≤ c.place) hand.version inside.low in
+      record {
+        volume = hand.volume;
+        is = ap (map.get s.group.tables.volumes) (sym at) ∙ hand.is;
+        usable = hand.usable;
+        behind = omega (arith, zone, behind);
+        headed = omega (arith, zone, low);
+        within = omega (arith, high, within);
+      }
 
-  made_below : (c : Chunk) (v : VolumeRow) → IsAmong c all_chunks → map.get s.group.tables.volumes c.vsn.0 ≡ Some v
-      → c.place + c.len ≤ tip_in s.group.tips c.vsn.0 v
-  made_below c v among =
+  made_in_hand : (c : Chunk) → IsAmong c all_chunks → ChunkInHand s.group.tables.volumes s.group.tips c
+  made_in_hand c among =
       let m = chunk_made c among in
-      subst (λ (x : Chunk). map.get s.group.tables.volumes x.vsn.0 ≡ Some v → x.place + x.len ≤ tip_in s.group.tips x.vsn.0 v) m.same
-      (base_below m.piece m.base v m.inside m.hand)
+      subst (ChunkInHand s.group.tables.volumes s.group.tips) m.same (base_in_hand m.piece m.base m.inside m.hand)
 
   base_lies : (p : Piece) (c : Chunk) → ChunkInside r.chunk p c → ZoneInHand s.group.tables.volumes s.group.tips r.chunk p
       → LiesOn s.group.tables.volumes (with_sum p.version copied.bytes c)
@@ -331,10 +356,11 @@ module _ (g : ℕ) (entries : Numbered Entry) (contents : Numbered (List ℕ)) (
       sized = copied.whole ∙ sym copied.len;
       known = made_known all;
       sums = made_right;
-      below = made_below;
+      hand = made_in_hand;
       undeleted = not;
     };
     whole = copied.whole ∙ mine.len;
+    apart = made_apart;
     unreserved = alone;
   }
 
@@ -349,7 +375,7 @@ module _ (g : ℕ) (entries : Numbered Entry) (contents : Numbered (List ℕ)) (
 
   -- ---- places
 
-  -- who has a place while the commit is journalled: another than the reservation, or a chunk of it
+  -- who has a place while the commit is journalled: another than the reservation, or a zone of it
   record IsOther (o : Owner) (vsn : List ℕ) (place : ℕ) : Type 0 where
     has : HasPlace s.group.tables.bitfiles s.group.reservations s.group.moves s.group.doubt o vsn place
     sure : (offset : ℕ) → o ≡ KeptPlace n offset → ⊥
@@ -357,8 +383,8 @@ module _ (g : ℕ) (entries : Numbered Entry) (contents : Numbered (List ℕ)) (
   record IsMine (o : Owner) (vsn : List ℕ) (place : ℕ) : Type 0 where
     chunk : Chunk
     among : IsAmong chunk all_chunks
-    owner : o ≡ Doubted chunk.offset
-    covers : ChunkCovers chunk vsn place
+    owner : o ≡ Doubted chunk.zone
+    covers : ZoneCovers chunk vsn place
 
   module _ (time : Secs) where
     abbrev committing : Option GroupRecord
@@ -375,13 +401,13 @@ module _ (g : ℕ) (entries : Numbered Entry) (contents : Numbered (List ℕ)) (
           sure = λ i e. was.0 (ap number_of e);
         })
     had (Target job) vsn place h = inl (record { has = h; sure = λ i e. cc })
-    had (Doubted offset) vsn place h =
+    had (Doubted zone) vsn place h =
         inr (record { chunk = h.chunk; among = h.among; owner = ap (λ i. Doubted i) (sym h.at); covers = h.covers })
 
     other_than_mine : (o p : Owner) (vsn : List ℕ) (place : ℕ) → IsOther o vsn place → IsMine p vsn place → ⊥
     other_than_mine o p vsn place a b =
         let m = chunk_made b.chunk b.among in
-        a.sure m.piece.offset (kept.places o (KeptPlace n m.piece.offset) vsn place a.has (zone_covers b.chunk vsn place m b.covers))
+        a.sure m.piece.offset (kept.places o (KeptPlace n m.piece.offset) vsn place a.has (piece_covers b.chunk vsn place m b.covers))
 
     places_committing : PlacesKept s.group.tables.bitfiles (map.remove s.group.reservations n) s.group.moves committing
     places_committing o p vsn place one two =
@@ -393,7 +419,10 @@ module _ (g : ℕ) (entries : Numbered Entry) (contents : Numbered (List ℕ)) (
           | inr a ↦ elim (had p vsn place two) [
             | inl b ↦ absurd (other_than_mine p o vsn place b a)
             | inr b ↦
-                a.owner ∙ ap (λ i. Doubted i) (made_apart a.chunk b.chunk vsn place a.among b.among a.covers b.covers) ∙ sym b.owner
+                let one = chunk_made a.chunk a.among in
+                let other = chunk_made b.chunk b.among in
+                let same = ap (λ (q : Piece). q.zone) (same_piece a.chunk b.chunk vsn place one other a.covers b.covers) in
+                a.owner ∙ ap (λ i. Doubted i) (made_zone a.chunk one ∙ same ∙ sym (made_zone b.chunk other)) ∙ sym b.owner
           ]
         ]
 

@@ -32,10 +32,10 @@ use Rattle.dm_model.specs.declared.state.Side.{Side}
 use Rattle.dm_model.specs.GroupCalls.{chunk_in, is_chunk, is_moved, move_done, move_done_needs, part_of, same_chunk, same_sum, was_moved}
 use Rattle.dm_invariant.specs.Assemble.{ChunkKnown, IsSumOf, known_on}
 use Rattle.dm_invariant.specs.Catalogue.{BitfileKept, LiesBefore}
-use Rattle.dm_invariant.specs.Doubts.{PutNeeds}
+use Rattle.dm_invariant.specs.Doubts.{ChunkInHand, PutNeeds}
 use Rattle.dm_invariant.specs.Kept.{InvariantHolds, SideKept, committed_in, deleted_in}
 use Rattle.dm_invariant.specs.Moves.{MoveKept, ReadPart, ReadRight, TargetWritten, WrittenRight}
-use Rattle.dm_invariant.specs.Places.{ChunkCovers, Doubted, HasPlace, HasTarget, Reserving as KeptPlace, Live, Owner, PlacesKept, Target}
+use Rattle.dm_invariant.specs.Places.{Doubted, HasPlace, HasTarget, Reserving as KeptPlace, Live, Owner, PlacesKept, Target, ZoneCovers}
 use Rattle.dm_invariant.proofs.Options.{none_some, same_row}
 use Rattle.dm_invariant.proofs.Texts.{texts_equal}
 use Rattle.dm_landing.proofs.VolumeChunkLists.{chunk_among, joins_within}
@@ -165,7 +165,7 @@ abbrev job_of : Owner → ℕ → ℕ
 job_of (Live b offset) other = other
 job_of (KeptPlace n offset) other = other
 job_of (Target job) other = job
-job_of (Doubted offset) other = other
+job_of (Doubted zone) other = other
 
 module _ (g : ℕ) (entries : Numbered Entry) (contents : Numbered (List ℕ)) (taken : Numbered (Unit {0})) (requests : Numbered OpenRequest)
     (committed deleted : Numbered (Unit {0})) (s : Side) (kept : SideKept entries contents taken requests g committed deleted s) (job : ℕ) (x : Moving)
@@ -177,15 +177,31 @@ module _ (g : ℕ) (entries : Numbered Entry) (contents : Numbered (List ℕ)) (
   abbrev goes : Chunk
   goes = record x.to { sum = sum }
 
-  covers_target : (vsn : List ℕ) (place : ℕ) → ChunkCovers goes vsn place → HasTarget s.group.moves job vsn place
+  -- its zone is that of the target
+  covers_target : (vsn : List ℕ) (place : ℕ) → ZoneCovers goes vsn place → HasTarget s.group.moves job vsn place
   covers_target vsn place covers =
-      let low = covers.low in
       let high = covers.high in
       let stands = mine.moved.place in
       record {
         moving = x;
         is = there;
-        covers = record { same = covers.same; low = omega (arith, low, stands); high = omega (arith, high, stands) };
+        covers = record { same = covers.same; low = covers.low; high = omega (arith, high, stands) };
+      }
+
+  goes_in_hand : ChunkInHand s.group.tables.volumes s.group.tips goes
+  goes_in_hand =
+      let zone = mine.zone in
+      let within = zone.within in
+      let stands : x.to.place ≡ x.to.zone + zone_header + chunk_header zone.volume.version =
+      subst (λ v. x.to.place ≡ x.to.zone + zone_header + chunk_header v) zone.same mine.moved.place in
+      let at = mine.moved.place in
+      record {
+        volume = zone.volume;
+        is = zone.is;
+        usable = zone.usable;
+        behind = zone.behind;
+        headed = omega (arith, stands);
+        within = omega (arith, within, at);
       }
 
   -- who has a place while the move is journalled: another than the move, or the chunk that is moved
@@ -194,7 +210,7 @@ module _ (g : ℕ) (entries : Numbered Entry) (contents : Numbered (List ℕ)) (
     sure : o ≡ Target job → ⊥
 
   record IsMine (o : Owner) (vsn : List ℕ) (place : ℕ) : Type 0 where
-    owner : o ≡ Doubted x.to.offset
+    owner : o ≡ Doubted x.to.zone
     has : HasTarget s.group.moves job vsn place
 
   module _ (time : Secs) where
@@ -212,12 +228,12 @@ module _ (g : ℕ) (entries : Numbered Entry) (contents : Numbered (List ℕ)) (
           has = record { moving = h.moving; is = was.1; covers = h.covers };
           sure = λ e. was.0 (ap (λ o. job_of o 0) e);
         })
-    had (Doubted offset) vsn place h =
+    had (Doubted zone) vsn place h =
         let same : h.chunk ≡ goes = h.among in
-        let at : offset ≡ x.to.offset = sym h.at ∙ ap (λ (c : Chunk). c.offset) same in
+        let at : zone ≡ x.to.zone = sym h.at ∙ ap (λ (c : Chunk). c.zone) same in
         inr (record {
           owner = ap (λ i. Doubted i) at;
-          has = covers_target vsn place (subst (λ (c : Chunk). ChunkCovers c vsn place) same h.covers);
+          has = covers_target vsn place (subst (λ (c : Chunk). ZoneCovers c vsn place) same h.covers);
         })
 
     places_moving : PlacesKept s.group.tables.bitfiles s.group.reservations (map.remove s.group.moves job) moving_it
@@ -308,16 +324,7 @@ module _ (g : ℕ) (entries : Numbered Entry) (contents : Numbered (List ℕ)) (
       sized = file.whole ∙ sym file.len;
       known = λ c same. subst (ChunkKnown s.images file.bytes) (sym same) goes_known;
       sums = λ c same. subst (λ (d : Chunk). IsSumOf (part_of file.bytes d.offset d.len) d.sum) (sym same) goes_right;
-      below = λ c v same is. subst (λ (d : Chunk). map.get s.group.tables.volumes d.vsn.0 ≡ Some v → d.place + d.len ≤ tip_in s.group.tips d.vsn.0 v)
-          (sym same)
-          (λ at.
-          let zone = mine.zone in
-          let within : x.to.zone + weight x.version x.to.len ≤ tip_in s.group.tips x.to.vsn.0 v =
-          subst (λ (y : VolumeRow). x.to.zone + weight x.version x.to.len ≤ tip_in s.group.tips x.to.vsn.0 y)
-          (same_row (map.get s.group.tables.volumes x.to.vsn.0) zone.volume v zone.is at) zone.within in
-          let stands = mine.moved.place in
-          omega (arith, within, stands))
-          is;
+      hand = λ c same. subst (ChunkInHand s.group.tables.volumes s.group.tips) (sym same) goes_in_hand;
       undeleted = undeleted (map.get deleted x.bfid.0) refl;
     }
 

@@ -166,7 +166,7 @@ split : (bitfiles : Numbered BitfileRow) (reservations : Numbered Reserved) (mov
 split bitfiles reservations moves doubt job x (Live b offset) vsn place h = inr h
 split bitfiles reservations moves doubt job x (Reserving n offset) vsn place h = inr h
 split bitfiles reservations moves doubt job x (Target q) vsn place h = target_split moves job x q vsn place h
-split bitfiles reservations moves doubt job x (Doubted offset) vsn place h = inr h
+split bitfiles reservations moves doubt job x (Doubted zone) vsn place h = inr h
 
 module _ (u : Usage) (volumes : Named VolumeRow) (job : ℕ) (x : Moving)
     (zone : NewZone u volumes x.to.vsn.0 x.version x.to.zone (x.to.zone + weight x.version x.to.len)) where

@@ -77,7 +77,7 @@ owner_before entries contents taken requests g committed deleted s settled k (Re
     ((k.reservations.reservation n has.reserved has.is).zones has.piece has.among) has.covers
 owner_before entries contents taken requests g committed deleted s settled k (Target job) vsn place has =
     target_before s.group.tables.volumes s.group.tips has.moving.version has.moving.to vsn place (k.moves.moving job has.moving has.is).zone has.covers
-owner_before entries contents taken requests g committed deleted s settled k (Doubted offset) vsn place has =
+owner_before entries contents taken requests g committed deleted s settled k (Doubted zone) vsn place has =
     absurd (not_doubted has.chunk s.group.doubt settled has.among)
 
 -- what has a place of a new zone doesn't

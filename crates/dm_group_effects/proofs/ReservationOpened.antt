@@ -212,7 +212,7 @@ split : (bitfiles : Numbered BitfileRow) (reservations : Numbered Reserved) (mov
 split bitfiles reservations moves doubt n r (Live b offset) vsn place h = inr h
 split bitfiles reservations moves doubt n r (Reserving q offset) vsn place h = kept_split reservations n r q offset vsn place h
 split bitfiles reservations moves doubt n r (Target job) vsn place h = inr h
-split bitfiles reservations moves doubt n r (Doubted offset) vsn place h = inr h
+split bitfiles reservations moves doubt n r (Doubted zone) vsn place h = inr h
 
 module _ (u : Usage) (volumes : Named VolumeRow) (reuses : Numbered Reusing) (new : Named ℕ) (n : ℕ) (b : Bfid) (len : ℕ) (ps : List Piece)
     (laid : LaidOut u volumes reuses new ps) where

@@ -73,7 +73,7 @@ puts_none : (bitfiles : Numbered BitfileRow) (reservations : Numbered Reserved) 
 puts_none bitfiles reservations moves doubt r none (Live b offset) vsn place h = h
 puts_none bitfiles reservations moves doubt r none (KeptPlace n offset) vsn place h = h
 puts_none bitfiles reservations moves doubt r none (Target job) vsn place h = h
-puts_none bitfiles reservations moves doubt r none (Doubted offset) vsn place h = absurd (none h.chunk h.among)
+puts_none bitfiles reservations moves doubt r none (Doubted zone) vsn place h = absurd (none h.chunk h.among)
 
 pub places_without : (bitfiles : Numbered BitfileRow) (reservations : Numbered Reserved) (moves : Numbered Moving) (doubt : Option GroupRecord)
     (r : GroupRecord) → ((c : Chunk) → IsPut c r.step → ⊥)

@@ -13,9 +13,11 @@ use Rattle.dm_invariant.specs.Places.{ChunkCovers}
 
 -- ---- the chunks from an offset and a place on
 
--- a chunk lies behind its header, before the end of what is left, and has some of the bytes that are left; it has no sum yet
+-- a chunk lies behind its header, before the end of what is left, and has some of the bytes that are left; it names the zone of
+-- the piece, and has no sum yet
 record Inside (version : ℕ) (p : Piece) (count offset left place : ℕ) (c : Chunk) : Type 0 where
   volume : c.vsn ≡ p.vsn
+  zone : c.zone ≡ p.zone
   low : place + chunk_header version ≤ c.place
   high : c.place + c.len ≤ place + chunk_header version * count + left
   from : offset ≤ c.offset
@@ -44,6 +46,7 @@ inside_at version chunk (suc count) p offset left place c some reach among =
     elim among [
       | inl same ↦ subst (λ x. Inside version p (suc count) offset left place x) (sym same) (record {
         volume = refl;
+        zone = refl;
         low = omega arith;
         high = high_first (chunk_header version) count left place taken less;
         from = omega arith;
@@ -60,6 +63,7 @@ inside_at version chunk (suc count) p offset left place c some reach among =
           let to = k.to in
           record {
             volume = k.volume;
+            zone = k.zone;
             low = omega (arith, low);
             high = high_later (chunk_header version) count left place taken (c.place + c.len) less high;
             from = omega (arith, from);
@@ -121,6 +125,7 @@ joins_at version chunk (suc count) p offset left place some holds reach =
 -- a chunk stands in the zone of its piece, behind both headers, and has some of the bytes of the piece
 pub record ChunkInside (chunk : ℕ) (p : Piece) (c : Chunk) : Type 0 where
   pub volume : c.vsn ≡ p.vsn
+  pub zone : c.zone ≡ p.zone
   pub low : p.zone + zone_header + chunk_header p.version ≤ c.place
   pub high : c.place + c.len ≤ zone_end chunk p
   pub from : p.offset ≤ c.offset
@@ -136,6 +141,7 @@ chunk_inside chunk p c some among =
     let high = k.high in
     record {
       volume = k.volume;
+      zone = k.zone;
       low = k.low;
       high = omega (arith, high);
       from = k.from;

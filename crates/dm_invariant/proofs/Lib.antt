@@ -8,6 +8,8 @@ pub mod Times
 -- files and entries
 pub mod Held
 pub mod LettingGo
+-- zones in hand
+pub mod DoubtedZones
 -- copies, and what is published
 pub mod AskedGroups
 pub mod Assembled

@@ -8,6 +8,8 @@ use Rattle.dm_base.specs.declared.identifier.Ino.{Ino}
 use Rattle.dm_base.specs.declared.volume.Chunk.{Chunk}
 use Rattle.dm_base.specs.declared.volume.Piece.{Piece}
 use Rattle.dm_rules.specs.Label.{first_zone}
+use Rattle.dm_rules.specs.Version.{chunk_header}
+use Rattle.dm_rules.specs.Zone.{zone_header}
 use Rattle.dm_tables.specs.Rows.{EachRow}
 use Rattle.dm_durable.specs.declared.daemon.Contents.TheVariants.{Making, Offline}
 use Rattle.dm_durable.specs.declared.daemon.DaemonRecord.{DaemonRecord}
@@ -34,6 +36,7 @@ use Rattle.dm_model.specs.declared.state.Side.{Side}
 use Rattle.dm_invariant.specs.Among.{IsAmong}
 use Rattle.dm_invariant.specs.Assemble.{ChunkKnown, SumRight}
 use Rattle.dm_invariant.specs.Moves.{IsReadyAt}
+use Rattle.dm_invariant.specs.Places.{ChunksApart}
 use Rattle.dm_invariant.specs.Requests.{PutOpen}
 use Rattle.dm_invariant.specs.Volumes.{IsOfConf}
 
@@ -118,8 +121,18 @@ MayLandIf t requests contents cap sides (Some r) = MayLand t requests contents c
 
 -- ---- a group
 
+-- the zone of a chunk that a step in doubt puts on a volume lies behind the label of a volume that isn't held, with the headers
+-- of the zone and of the chunk before the chunk's bytes, which end before the tip
+pub record ChunkInHand (volumes : Named VolumeRow) (tips : Named ℕ) (c : Chunk) : Type 0 where
+  pub volume : VolumeRow
+  pub is : map.get volumes c.vsn.0 ≡ Some volume
+  pub usable : volume.held ≡ None
+  pub behind : first_zone ≤ c.zone
+  pub headed : c.zone + zone_header + chunk_header volume.version ≤ c.place
+  pub within : c.place + c.len ≤ tip_in tips c.vsn.0 volume
+
 -- what a step that puts chunks of a bitfile on volumes needs: its entry asks the group, the chunks are known to be parts of
--- the content with right sums, and end before the tips; and the group wasn't told to delete the bitfile
+-- the content with right sums, and their zones are in hand; and the group wasn't told to delete the bitfile
 pub record PutNeeds (g : ℕ) (entries : Numbered Entry) (contents : Numbered (List ℕ)) (images : Named Image) (volumes : Named VolumeRow)
     (tips : Named ℕ) (deleted : Numbered (Unit {0})) (b : ℕ) (IsNew : Chunk → Type 0) : Type 0 where
   pub entry : Entry
@@ -130,14 +143,16 @@ pub record PutNeeds (g : ℕ) (entries : Numbered Entry) (contents : Numbered (L
   pub sized : length bytes ≡ entry.len
   pub known : (c : Chunk) → IsNew c → ChunkKnown images bytes c
   pub sums : (c : Chunk) → IsNew c → SumRight bytes c
-  pub below : (c : Chunk) (v : VolumeRow) → IsNew c → map.get volumes c.vsn.0 ≡ Some v → c.place + c.len ≤ tip_in tips c.vsn.0 v
+  pub hand : (c : Chunk) → IsNew c → ChunkInHand volumes tips c
   pub undeleted : map.get deleted b ≡ None
 
--- what a commit needs besides: its length is the content's, and no reservation is of the bitfile
+-- what a commit needs besides: its length is the content's, no place is of two of its chunks, and no reservation is of the
+-- bitfile
 pub record CommitNeeds (g : ℕ) (entries : Numbered Entry) (contents : Numbered (List ℕ)) (images : Named Image) (volumes : Named VolumeRow)
     (tips : Named ℕ) (deleted : Numbered (Unit {0})) (reservations : Numbered Reserved) (b len : ℕ) (chunks : List Chunk) : Type 0 where
   pub puts : PutNeeds g entries contents images volumes tips deleted b (λ c. IsAmong c chunks)
   pub whole : length puts.bytes ≡ len
+  pub apart : ChunksApart chunks
   pub unreserved : EachRow reservations (λ n r. r.bfid.0 ≡ b → ⊥)
 
 -- nobody uses the volume: no mount of it is open, and no reservation has a piece there

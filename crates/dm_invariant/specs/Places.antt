@@ -1,8 +1,8 @@
 -- The invariant, of the places of volumes: none is of two chunks or zones.
 --
--- Who has a place is an owner: a chunk of a stored bitfile, a zone of a reservation, the zone of a chunk that is moved, or
--- a chunk of a record in doubt. Each is named so that two owners are one exactly where they are the same thing; so a commit
--- and a move only rename the owner of their places.
+-- Who has a place is an owner: a chunk of a stored bitfile, or a zone in hand: one of a reservation, that of a chunk that is
+-- moved, or one that a record in doubt fills. Each is named so that two owners are one exactly where they are the same thing;
+-- so a commit and a move that are journalled only rename the owner of their places, and once they land give up the headers.
 use Rattle.std.specs.Prelude.{◌≡◌, ◌≤◌, ◌<◌, ◌+◌, ℕ, Option, None, Some, List}
 use Rattle.std.specs.FinMap as map
 use Rattle.dm_base.specs.declared.volume.Chunk.{Chunk}
@@ -38,13 +38,26 @@ pub record TargetCovers (version : ℕ) (c : Chunk) (vsn : List ℕ) (place : �
   pub low : c.zone ≤ place
   pub high : place < c.zone + weight version c.len
 
+-- a place is one of the zone that a chunk names, from the zone's header to the chunk's last byte
+pub record ZoneCovers (c : Chunk) (vsn : List ℕ) (place : ℕ) : Type 0 where
+  pub same : c.vsn.0 ≡ vsn
+  pub low : c.zone ≤ place
+  pub high : place < c.place + c.len
+
+-- no place is of two of the chunks
+abbrev pub ChunksApart : List Chunk → Type 0
+ChunksApart chunks =
+    (c d : Chunk) (vsn : List ℕ) (place : ℕ) → IsAmong c chunks → IsAmong d chunks → ChunkCovers c vsn place → ChunkCovers d vsn place
+    → c.offset ≡ d.offset
+
 -- ---- owners
 
+-- a zone that a record in doubt fills is known by its place, the others by what they are of
 pub data Owner : Type 0 where
   Live : (bitfile offset : ℕ) → Owner
   Reserving : (reservation offset : ℕ) → Owner
   Target : (job : ℕ) → Owner
-  Doubted : (offset : ℕ) → Owner
+  Doubted : (zone : ℕ) → Owner
 
 pub record HasLive (bitfiles : Numbered BitfileRow) (b offset : ℕ) (vsn : List ℕ) (place : ℕ) : Type 0 where
   pub row : BitfileRow
@@ -80,19 +93,20 @@ abbrev pub IsDoubted : Chunk → Option GroupRecord → Type 0
 IsDoubted c None = ⊥
 IsDoubted c (Some r) = IsPut c r.step
 
-pub record HasDoubted (doubt : Option GroupRecord) (offset : ℕ) (vsn : List ℕ) (place : ℕ) : Type 0 where
+-- the zone reaches from its header to the end of the last of the record's chunks that name it
+pub record HasDoubted (doubt : Option GroupRecord) (zone : ℕ) (vsn : List ℕ) (place : ℕ) : Type 0 where
   pub chunk : Chunk
   pub among : IsDoubted chunk doubt
-  pub at : chunk.offset ≡ offset
-  pub covers : ChunkCovers chunk vsn place
+  pub at : chunk.zone ≡ zone
+  pub covers : ZoneCovers chunk vsn place
 
 abbrev pub HasPlace : Numbered BitfileRow → Numbered Reserved → Numbered Moving → Option GroupRecord → Owner → List ℕ → ℕ → Type 0
 HasPlace bitfiles reservations moves doubt (Live b offset) vsn place = HasLive bitfiles b offset vsn place
 HasPlace bitfiles reservations moves doubt (Reserving n offset) vsn place = HasReserving reservations n offset vsn place
 HasPlace bitfiles reservations moves doubt (Target job) vsn place = HasTarget moves job vsn place
-HasPlace bitfiles reservations moves doubt (Doubted offset) vsn place = HasDoubted doubt offset vsn place
+HasPlace bitfiles reservations moves doubt (Doubted zone) vsn place = HasDoubted doubt zone vsn place
 
--- no place is of two
+-- no place is of two: neither of two chunks, nor of a chunk and a zone in hand, nor of two zones in hand
 abbrev pub PlacesKept : Numbered BitfileRow → Numbered Reserved → Numbered Moving → Option GroupRecord → Type 0
 PlacesKept bitfiles reservations moves doubt =
     (o p : Owner) (vsn : List ℕ) (place : ℕ) → HasPlace bitfiles reservations moves doubt o vsn place → HasPlace bitfiles reservations moves doubt p vsn place → o ≡ p

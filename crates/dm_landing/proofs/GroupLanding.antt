@@ -88,7 +88,7 @@ pub has_more : (s : Side) (doubt : Option GroupRecord) (o : Owner) (vsn : List â
 has_more s doubt (Live b offset) vsn place has = has
 has_more s doubt (Reserving n offset) vsn place has = has
 has_more s doubt (Target job) vsn place has = has
-has_more s doubt (Doubted offset) vsn place has = absurd has.among
+has_more s doubt (Doubted zone) vsn place has = absurd has.among
 
 -- so no place is of two where nothing is in doubt any more
 pub places_settled : (s : Side) (doubt : Option GroupRecord) â†’ PlacesKept s.group.tables.bitfiles s.group.reservations s.group.moves doubt

@@ -204,7 +204,7 @@ module _ (IsNamed : ℕ → Type 0) (sides : Numbered Side) (requests later : Nu
         sized = k.sized ∙ sym f.2;
         known = k.known;
         sums = k.sums;
-        below = k.below;
+        hand = k.hand;
         undeleted = k.undeleted;
       }
 
@@ -216,6 +216,7 @@ module _ (IsNamed : ℕ → Type 0) (sides : Numbered Side) (requests later : Nu
   needs_onward g s deleted time (Commit b len chunks) lasting k = record {
     puts = puts_onward g s deleted b.0 (λ c. IsAmong c chunks) (lasting b.0 refl) k.puts;
     whole = k.whole;
+    apart = k.apart;
     unreserved = k.unreserved;
   }
   needs_onward g s deleted time (Delete b) lasting k = taken_stays b.0 k

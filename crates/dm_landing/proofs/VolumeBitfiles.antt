@@ -66,7 +66,7 @@ has_before bitfiles b reservations moves doubt (Live c offset) vsn place has = r
 }
 has_before bitfiles b reservations moves doubt (Reserving n offset) vsn place has = has
 has_before bitfiles b reservations moves doubt (Target job) vsn place has = has
-has_before bitfiles b reservations moves doubt (Doubted offset) vsn place has = has
+has_before bitfiles b reservations moves doubt (Doubted zone) vsn place has = has
 
 -- the bitfile is dropping, since a hard delete took it: so no entry needs it
 is_dropping : (entries : Numbered Entry) (taken : Numbered (Unit {0})) (b : ℕ) (e : Entry)

@@ -21,7 +21,8 @@ use Rattle.dm_invariant.specs.Among.{IsAmong}
 use Rattle.dm_invariant.specs.Catalogue.{BitfileKept, LiesBefore}
 use Rattle.dm_invariant.specs.Doubts.{CommitNeeds, GroupMayLand}
 use Rattle.dm_invariant.specs.Kept.{SideKept}
-use Rattle.dm_invariant.specs.Places.{HasPlace, Live, Reserving, Target, Doubted, Owner, PlacesKept}
+use Rattle.dm_invariant.specs.Places.{ChunkCovers, ChunksApart, HasPlace, Live, Reserving, Target, Doubted, Owner, PlacesKept, ZoneCovers}
+use Rattle.dm_invariant.proofs.DoubtedZones.{ends_below, zone_covers}
 use Rattle.dm_invariant.proofs.LookUps.{key_differs, still_there}
 use Rattle.dm_invariant.proofs.Options.{has_value}
 use Rattle.dm_landing.proofs.GroupLanding.{landed_as, side_as}
@@ -34,22 +35,25 @@ use Rattle.dm_landing.proofs.VolumesOnward.{bitfile_onward}
 -- ---- places
 
 module _ (bitfiles : Numbered BitfileRow) (reservations : Numbered Reserved) (moves : Numbered Moving) (time : Secs) (b : Bfid) (len : ℕ)
-    (chunks : List Chunk) where
+    (chunks : List Chunk) (inside : (c : Chunk) (vsn : List ℕ) (place : ℕ) → IsAmong c chunks → ChunkCovers c vsn place → ZoneCovers c vsn place)
+    (apart : ChunksApart chunks) where
   abbrev committing : Option GroupRecord
   committing = Some (record { time = time; step = Commit b len chunks })
 
   abbrev more : Numbered BitfileRow
   more = map.insert bitfiles b.0 (record { len = len; chunks = chunks })
 
-  -- who has a place after a commit had it before: it is no other, or was the commit's own
+  -- who has a place after a commit had it before: it is no other, or one of the commit's chunks, and was in the zone that this names
   record WasOther (o : Owner) (vsn : List ℕ) (place : ℕ) : Type 0 where
     has : HasPlace bitfiles reservations moves committing o vsn place
     sure : (n : ℕ) → o ≡ Doubted n → ⊥
 
   record WasNew (o : Owner) (vsn : List ℕ) (place : ℕ) : Type 0 where
-    offset : ℕ
-    is : o ≡ Live b.0 offset
-    has : HasPlace bitfiles reservations moves committing (Doubted offset) vsn place
+    chunk : Chunk
+    among : IsAmong chunk chunks
+    is : o ≡ Live b.0 chunk.offset
+    covers : ChunkCovers chunk vsn place
+    has : HasPlace bitfiles reservations moves committing (Doubted chunk.zone) vsn place
 
   had : (o : Owner) (vsn : List ℕ) (place : ℕ) → HasPlace more reservations moves None o vsn place → WasOther o vsn place ⊎ WasNew o vsn place
   had (Live q offset) vsn place h =
@@ -57,9 +61,11 @@ module _ (bitfiles : Numbered BitfileRow) (reservations : Numbered Reserved) (mo
         | inl here ↦
             let among : IsAmong h.chunk chunks = subst (λ r. IsAmong h.chunk r.chunks) here.1 h.among in
             inr (record {
-              offset = offset;
-              is = ap (λ x. Live x offset) here.0;
-              has = record { chunk = h.chunk; among = among; at = h.at; covers = h.covers };
+              chunk = h.chunk;
+              among = among;
+              is = ap (λ x. Live x offset) here.0 ∙ ap (λ n. Live b.0 n) (sym h.at);
+              covers = h.covers;
+              has = record { chunk = h.chunk; among = among; at = refl; covers = inside h.chunk vsn place among h.covers };
             })
         | inr beside ↦
             inl (record {
@@ -69,23 +75,18 @@ module _ (bitfiles : Numbered BitfileRow) (reservations : Numbered Reserved) (mo
       ]
   had (Reserving n offset) vsn place h = inl (record { has = h; sure = λ m e. cc })
   had (Target job) vsn place h = inl (record { has = h; sure = λ m e. cc })
-  had (Doubted offset) vsn place h = absurd h.among
-
-  same_offset : (m n : ℕ) → Doubted m ≡ Doubted n → m ≡ n
-  same_offset m n e = cc
+  had (Doubted zone) vsn place h = absurd h.among
 
   pub places_committed : PlacesKept bitfiles reservations moves committing → PlacesKept more reservations moves None
   places_committed k = λ o p vsn place one two.
       elim (had o vsn place one) [
         | inl a ↦ elim (had p vsn place two) [
           | inl c ↦ k o p vsn place a.has c.has
-          | inr c ↦ absurd (a.sure c.offset (k o (Doubted c.offset) vsn place a.has c.has))
+          | inr c ↦ absurd (a.sure c.chunk.zone (k o (Doubted c.chunk.zone) vsn place a.has c.has))
         ]
         | inr a ↦ elim (had p vsn place two) [
-          | inl c ↦ absurd (c.sure a.offset (k p (Doubted a.offset) vsn place c.has a.has))
-          | inr c ↦
-              let same = same_offset a.offset c.offset (k (Doubted a.offset) (Doubted c.offset) vsn place a.has c.has) in
-              a.is ∙ ap (λ n. Live b.0 n) same ∙ sym c.is
+          | inl c ↦ absurd (c.sure a.chunk.zone (k p (Doubted a.chunk.zone) vsn place c.has a.has))
+          | inr c ↦ a.is ∙ ap (λ n. Live b.0 n) (apart a.chunk c.chunk vsn place a.among c.among a.covers c.covers) ∙ sym c.is
         ]
       ]
 
@@ -123,7 +124,8 @@ bitfile_committed entries contents taken requests g committed deleted s time b l
     let t = s.group.tables in
     let n = may.needs in
     let step = may.follow.step in
-    let below : Below t.volumes s.group.tips chunks = λ c v among is. n.puts.below c v among is in
+    let below : Below t.volumes s.group.tips chunks = λ c v among is.
+    ends_below t.volumes s.group.tips c v (n.puts.hand c among) is in
     let on = stays_raised s.group.conf t.time.0 t.volumes s.group.tips s.images chunks below k.volumes in
     let volumes = with_ends_behind chunks t.volumes in
     let row : BitfileRow = record { len = len; chunks = chunks } in
@@ -160,4 +162,5 @@ bitfile_committed entries contents taken requests g committed deleted s time b l
       deletes_taken = k.catalogue.deletes_taken;
     })
     (volumes_raised s.group.conf t.time.0 t.volumes s.group.tips s.images chunks below k.volumes time.0 may.follow.time)
-    (places_committed t.bitfiles s.group.reservations s.group.moves time b len chunks places)
+    (places_committed t.bitfiles s.group.reservations s.group.moves time b len chunks
+    (λ c vsn place among covers. zone_covers t.volumes s.group.tips c vsn place (n.puts.hand c among) covers) n.apart places)

@@ -28,8 +28,9 @@ use Rattle.dm_invariant.specs.Assemble.{ChunkKnown, SumRight}
 use Rattle.dm_invariant.specs.Catalogue.{BitfileKept, LiesBefore}
 use Rattle.dm_invariant.specs.Doubts.{GroupMayLand, PutNeeds}
 use Rattle.dm_invariant.specs.Kept.{SideKept}
-use Rattle.dm_invariant.specs.Places.{HasPlace, Live, Reserving, Target, Doubted, Owner, PlacesKept}
+use Rattle.dm_invariant.specs.Places.{ChunkCovers, HasPlace, Live, Reserving, Target, Doubted, Owner, PlacesKept, ZoneCovers}
 use Rattle.dm_invariant.specs.Volumes.{VolumesKept}
+use Rattle.dm_invariant.proofs.DoubtedZones.{ends_below, zone_covers}
 use Rattle.dm_invariant.proofs.Lists.{mapped_among}
 use Rattle.dm_invariant.proofs.Options.{mapped_value, same_row}
 use Rattle.dm_landing.proofs.GroupLanding.{landed_as, side_as}
@@ -117,21 +118,22 @@ moved_among to cs c among =
 
 -- ---- places
 
-module _ (bitfiles : Numbered BitfileRow) (reservations : Numbered Reserved) (moves : Numbered Moving) (time : Secs) (b : Bfid) (from to : Chunk) where
+module _ (bitfiles : Numbered BitfileRow) (reservations : Numbered Reserved) (moves : Numbered Moving) (time : Secs) (b : Bfid) (from to : Chunk)
+    (inside : (vsn : List ℕ) (place : ℕ) → ChunkCovers to vsn place → ZoneCovers to vsn place) where
   abbrev moving : Option GroupRecord
   moving = Some (record { time = time; step = Move b from to })
 
   abbrev moved : Numbered BitfileRow
   moved = adjust bitfiles b.0 (with_chunk to)
 
-  -- who has a place after a move had it before: it is no other, or was the move's own
+  -- who has a place after a move had it before: it is no other, or was in the move's own zone
   record WasOther (o : Owner) (vsn : List ℕ) (place : ℕ) : Type 0 where
     has : HasPlace bitfiles reservations moves moving o vsn place
     sure : (n : ℕ) → o ≡ Doubted n → ⊥
 
   record WasMoved (o : Owner) (vsn : List ℕ) (place : ℕ) : Type 0 where
     is : o ≡ Live b.0 to.offset
-    has : HasPlace bitfiles reservations moves moving (Doubted to.offset) vsn place
+    has : HasPlace bitfiles reservations moves moving (Doubted to.zone) vsn place
 
   had : (o : Owner) (vsn : List ℕ) (place : ℕ) → HasPlace moved reservations moves None o vsn place → WasOther o vsn place ⊎ WasMoved o vsn place
   had (Live q offset) vsn place h =
@@ -142,7 +144,12 @@ module _ (bitfiles : Numbered BitfileRow) (reservations : Numbered Reserved) (mo
               | inl same ↦
                   inr (record {
                     is = ap (λ x. Live x offset) here.0 ∙ ap (λ n. Live b.0 n) (sym h.at ∙ ap (λ c. c.offset) same);
-                    has = record { chunk = h.chunk; among = same; at = ap (λ c. c.offset) same; covers = h.covers };
+                    has = record {
+                      chunk = to;
+                      among = refl;
+                      at = refl;
+                      covers = inside vsn place (subst (λ (c : Chunk). ChunkCovers c vsn place) same h.covers);
+                    };
                   })
               | inr was ↦
                   inl (record {
@@ -165,17 +172,17 @@ module _ (bitfiles : Numbered BitfileRow) (reservations : Numbered Reserved) (mo
       ]
   had (Reserving n offset) vsn place h = inl (record { has = h; sure = λ m e. cc })
   had (Target job) vsn place h = inl (record { has = h; sure = λ m e. cc })
-  had (Doubted offset) vsn place h = absurd h.among
+  had (Doubted zone) vsn place h = absurd h.among
 
   pub places_moved : PlacesKept bitfiles reservations moves moving → PlacesKept moved reservations moves None
   places_moved k = λ o p vsn place one two.
       elim (had o vsn place one) [
         | inl a ↦ elim (had p vsn place two) [
           | inl c ↦ k o p vsn place a.has c.has
-          | inr c ↦ absurd (a.sure to.offset (k o (Doubted to.offset) vsn place a.has c.has))
+          | inr c ↦ absurd (a.sure to.zone (k o (Doubted to.zone) vsn place a.has c.has))
         ]
         | inr a ↦ elim (had p vsn place two) [
-          | inl c ↦ absurd (c.sure to.offset (k p (Doubted to.offset) vsn place c.has a.has))
+          | inl c ↦ absurd (c.sure to.zone (k p (Doubted to.zone) vsn place c.has a.has))
           | inr c ↦ a.is ∙ sym c.is
         ]
       ]
@@ -248,7 +255,7 @@ chunk_moved entries contents taken requests g committed deleted s time b from to
     let n = may.needs in
     let step = may.follow.step in
     let one : List Chunk = to ∷ [] in
-    let below : Below t.volumes s.group.tips one = λ c v among is. elim among [ inl at ↦ n.below c v at is | inr none ↦ absurd none ] in
+    let below : Below t.volumes s.group.tips one = λ c v among is. elim among [ inl at ↦ ends_below t.volumes s.group.tips c v (n.hand c at) is | inr none ↦ absurd none ] in
     let e = raised-one to t.volumes in
     let volumes = adjust t.volumes to.vsn.0 (with_end_behind to) in
     let raised = stays_raised s.group.conf t.time.0 t.volumes s.group.tips s.images one below k.volumes in
@@ -288,4 +295,5 @@ chunk_moved entries contents taken requests g committed deleted s time b from to
     })
     (subst (λ x. VolumesKept s.group.conf time.0 x s.group.tips) e
     (volumes_raised s.group.conf t.time.0 t.volumes s.group.tips s.images one below k.volumes time.0 may.follow.time))
-    (places_moved t.bitfiles s.group.reservations s.group.moves time b from to places)
+    (places_moved t.bitfiles s.group.reservations s.group.moves time b from to
+    (λ vsn place covers. zone_covers t.volumes s.group.tips to vsn place (n.hand to refl) covers) places)

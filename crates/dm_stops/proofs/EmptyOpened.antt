@@ -61,7 +61,7 @@ nobody : (o : Owner) (vsn : List ℕ) (place : ℕ) → HasPlace map.empty map.e
 nobody (Live b offset) vsn place has = none_in_empty nat_cmp map.empty b has.row refl has.is
 nobody (Reserving n offset) vsn place has = none_in_empty nat_cmp map.empty n has.reserved refl has.is
 nobody (Target job) vsn place has = none_in_empty nat_cmp map.empty job has.moving refl has.is
-nobody (Doubted offset) vsn place has = has.among
+nobody (Doubted zone) vsn place has = has.among
 
 -- it mounts nothing
 few : (drives : ℕ) → map.len (map.empty {X = Mounted} {R = nat_cmp}) ≤ drives

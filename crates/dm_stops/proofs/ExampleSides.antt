@@ -128,7 +128,7 @@ module _ (g : ℕ) (vsn : Vsn) (v : VolumeRow) (place : ℕ) (sum : Option (List
   owner_is (Live b offset) at p has = let l = live_is b offset at p has in λ i. Live (l.0 i) (l.1 i)
   owner_is (Reserving n offset) at p has = absurd (none_in_empty nat_cmp map.empty n has.reserved refl has.is)
   owner_is (Target job) at p has = absurd (none_in_empty nat_cmp map.empty job has.moving refl has.is)
-  owner_is (Doubted offset) at p has = absurd has.among
+  owner_is (Doubted zone) at p has = absurd has.among
 
   -- ---- the group
 
