@@ -153,13 +153,8 @@ module _ (R : CopyReservation → CopyReservation → Type 0) (number : (h k : C
       let c = on.comes b d is in
       let k = each b c.0 c.1 in
       record {
-        entry = k.entry;
-        is = k.is;
-        asked = k.asked;
+        of = k.of;
         len = k.len ∙ sym c.2.len;
-        bytes = k.bytes;
-        content = k.content;
-        whole = k.whole ∙ sym c.2.len;
         put = record { request = k.put.request; is = ap (map.get requests) c.2.request ∙ k.put.is; put = k.put.put; same = k.put.same };
         reservation = λ held has.
             let h = held_before R c.0.reservation d.reservation held has c.2.held in

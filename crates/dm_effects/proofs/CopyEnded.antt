@@ -102,13 +102,8 @@ side_put_ended entries contents taken requests g committed deleted s n b groups 
             let was = k.reservations.copy q c at.1 in
             let other : c.request ≢ n = λ e. at.0 (sym was.put.same ∙ mine was.put.request (ap (map.get requests) (sym e) ∙ was.put.is)) in
             record {
-              entry = was.entry;
-              is = was.is;
-              asked = was.asked;
+              of = was.of;
               len = was.len;
-              bytes = was.bytes;
-              content = was.content;
-              whole = was.whole;
               put = record {
                 request = was.put.request;
                 is = removed-beside numbers requests n c.request other ∙ was.put.is;

@@ -1,5 +1,5 @@
 -- A put begins, and with it a copy of it: a side is kept where no copy of the bitfile has a reservation.
-use Rattle.std.proofs.Common.{◌≡◌, ℕ, true, Some, None, List, length, sym, ap, ◌∙◌, inl, inr}
+use Rattle.std.proofs.Common.{◌≡◌, ℕ, true, None, List, sym, ap, ◌∙◌, inl, inr}
 use Rattle.std.specs.FinMap as map
 use Rattle.dm_base.specs.declared.conf.GroupConf.{GroupConf}
 use Rattle.dm_base.specs.declared.identifier.GroupId.{GroupId}
@@ -7,7 +7,6 @@ use Rattle.dm_base.specs.declared.serial.Vsn.{Vsn}
 use Rattle.dm_tables.proofs.Orders.{numbers}
 use Rattle.dm_tables.proofs.Rows.{get-beside, get-here, inserted}
 use Rattle.dm_durable.specs.declared.daemon.Entry.{Entry}
-use Rattle.dm_durable.specs.Entries.{asks}
 use Rattle.dm_durable.specs.Tables.{Numbered}
 use Rattle.dm_model.specs.declared.plan.Opening.TheVariants as opening
 use Rattle.dm_model.specs.declared.state.CopyState.{CopyState}
@@ -20,6 +19,7 @@ use Rattle.dm_model.specs.declared.state.Reusing.{Reusing}
 use Rattle.dm_model.specs.declared.state.Side.{Side}
 use Rattle.dm_model.specs.Files.{is_put}
 use Rattle.dm_model.specs.SideShare.{side_after_opening}
+use Rattle.dm_invariant.specs.Catalogue.{AskedBitfile}
 use Rattle.dm_invariant.specs.Kept.{SideKept}
 use Rattle.dm_invariant.specs.Mounts.{OriginKept}
 use Rattle.dm_invariant.proofs.LookUps.{beside_free}
@@ -27,18 +27,13 @@ use Rattle.dm_invariant.proofs.Options.{none_some}
 use Rattle.dm_effects.proofs.CopyEnded.{IsUnreserved, reserved_apart}
 use Rattle.dm_effects.proofs.Uses.{doubt_fewer, open_of, same_uses}
 
--- the put is of a bitfile whose entry asks the group and whose content is known; its number is free
+-- the put is of a bitfile that was asked of the group; its number is free
 pub record PutOpens (g : ℕ) (entries : Numbered Entry) (contents : Numbered (List ℕ)) (requests : Numbered OpenRequest)
     (copies : Numbered CopyState) (n : ℕ) (r : OpenRequest) (len : ℕ) : Type 0 where
   pub free : map.get requests n ≡ None
   pub put : is_put r.kind ≡ true
-  pub entry : Entry
-  pub is : map.get entries r.bfid.0 ≡ Some entry
-  pub asked : asks entry g ≡ true
-  pub len_is : entry.len ≡ len
-  pub bytes : List ℕ
-  pub content : map.get contents r.bfid.0 ≡ Some bytes
-  pub whole : length bytes ≡ len
+  pub of : AskedBitfile g entries contents r.bfid.0
+  pub len_is : of.entry.len ≡ len
   pub unreserved : IsUnreserved copies r.bfid.0
 
 origin_more : (conf : GroupConf) (reservations : Numbered Reserved) (copies : Numbered CopyState) (moves : Numbered Moving)
@@ -110,13 +105,15 @@ side_put_opened entries contents taken requests g committed deleted s n r len gr
               let same = ap (λ (d : CopyState). d.len) here.1 in
               let request = ap (λ (d : CopyState). d.request) here.1 in
               record {
-                entry = opens.entry;
-                is = ap (map.get entries) here.0 ∙ opens.is;
-                asked = opens.asked;
+                of = record {
+                  entry = opens.of.entry;
+                  is = ap (map.get entries) here.0 ∙ opens.of.is;
+                  asked = opens.of.asked;
+                  bytes = opens.of.bytes;
+                  content = ap (map.get contents) here.0 ∙ opens.of.content;
+                  sized = opens.of.sized;
+                };
                 len = opens.len_is ∙ sym same;
-                bytes = opens.bytes;
-                content = ap (map.get contents) here.0 ∙ opens.content;
-                whole = opens.whole ∙ sym same;
                 put = record {
                   request = r;
                   is = ap (map.get (map.insert requests n r)) request ∙ get-here numbers requests n r;
@@ -128,13 +125,8 @@ side_put_opened entries contents taken requests g committed deleted s n r len gr
           | inr beside ↦
               let was = k.reservations.copy b c beside.1 in
               record {
-                entry = was.entry;
-                is = was.is;
-                asked = was.asked;
+                of = was.of;
                 len = was.len;
-                bytes = was.bytes;
-                content = was.content;
-                whole = was.whole;
                 put = record {
                   request = was.put.request;
                   is = beside_free numbers requests n c.request r was.put.request opens.free was.put.is;

@@ -31,7 +31,6 @@ use Rattle.dm_model.specs.declared.state.Origin.TheVariants as origin
 use Rattle.dm_model.specs.declared.state.Reserved.{Reserved}
 use Rattle.dm_model.specs.declared.state.Reusing.{Reusing}
 use Rattle.dm_model.specs.declared.state.Side.{Side}
-use Rattle.dm_model.specs.declared.state.WrittenZone.{WrittenZone}
 use Rattle.dm_model.specs.GroupCalls.{piece_at}
 use Rattle.dm_model.specs.SideShare.{known_by}
 use Rattle.dm_invariant.specs.Among.{IsAmong}
@@ -209,16 +208,11 @@ module _ (vsn : List ℕ) (place n : ℕ) (old new : Named Image) (beside : Know
       → ((c : Chunk) → IsAmong c row.chunks → Spares vsn place n c)
       → BitfileKept g entries contents volumes old b row → BitfileKept g entries contents volumes new b row
   bitfile_beside g entries contents volumes b row spares k = record {
-    entry = k.entry;
-    is = k.is;
-    asked = k.asked;
+    of = k.of;
     len = k.len;
-    bytes = k.bytes;
-    content = k.content;
-    whole = k.whole;
     joins = k.joins;
     lies = k.lies;
-    known = λ c among. chunk_beside vsn place n old new k.bytes c beside (spares c among) (k.known c among);
+    known = λ c among. chunk_beside vsn place n old new k.of.bytes c beside (spares c among) (k.known c among);
     sums = k.sums;
   }
 
@@ -255,13 +249,8 @@ module _ (vsn : List ℕ) (place n : ℕ) (old new : Named Image) (beside : Know
       (deleted : Numbered (Unit {0})) (b : ℕ) (IsNew : Chunk → Type 0) → ((c : Chunk) → IsNew c → Spares vsn place n c)
       → PutNeeds g entries contents old volumes tips deleted b IsNew → PutNeeds g entries contents new volumes tips deleted b IsNew
   puts_beside g entries contents volumes tips deleted b IsNew spares k = record {
-    entry = k.entry;
-    is = k.is;
-    asked = k.asked;
-    bytes = k.bytes;
-    content = k.content;
-    sized = k.sized;
-    known = λ c among. chunk_beside vsn place n old new k.bytes c beside (spares c among) (k.known c among);
+    of = k.of;
+    known = λ c among. chunk_beside vsn place n old new k.of.bytes c beside (spares c among) (k.known c among);
     sums = k.sums;
     hand = k.hand;
     undeleted = k.undeleted;

@@ -10,7 +10,6 @@ use Rattle.dm_durable.specs.declared.daemon.DaemonRecord.{DaemonRecord}
 use Rattle.dm_durable.specs.declared.daemon.DaemonStep.{DaemonStep}
 use Rattle.dm_durable.specs.declared.daemon.DaemonStep.TheVariants.{Write, Remove, BeginPut, Stored, EndPut, Release, Taken, Dump, Undump, Restore, HardDelete, Dropped, Restart, Age}
 use Rattle.dm_durable.specs.declared.daemon.DaemonTables.{DaemonTables}
-use Rattle.dm_durable.specs.declared.daemon.Entry.{Entry}
 use Rattle.dm_durable.specs.Tables.{Numbered}
 use Rattle.dm_model.specs.declared.plan.Ending.TheVariants as ending
 use Rattle.dm_model.specs.declared.state.CopyState.{CopyState}
@@ -23,7 +22,6 @@ use Rattle.dm_model.specs.Files.{asked_by, is_put}
 use Rattle.dm_model.specs.SideShare.{side_after_ending}
 use Rattle.dm_invariant.specs.Doubts.{DoubtPuts, StepNeeds, MayLandIf}
 use Rattle.dm_invariant.specs.Kept.{SideKept, committed_in, deleted_in, InvariantHolds}
-use Rattle.dm_invariant.specs.Reservations.{PutOf}
 use Rattle.dm_invariant.proofs.AskedGroups.{NumberAmong, among_cons, asked_among}
 use Rattle.dm_invariant.proofs.Options.{has_value, none_some, value_of}
 use Rattle.dm_effects.proofs.CopyEnded.{IsUnreserved, side_put_ended}
@@ -172,7 +170,7 @@ module _ (j : Joint) (kept : InvariantHolds j) (w k : ℕ) (r : OpenRequest) (is
   asked_or g s side None at = inr at
   asked_or g s side (Some c) at =
       let copy = side.reservations.copy b c at in
-      inl (subst (NumberAmong g) (ap asked_by (sym copy.is)) (asked_among copy.entry g copy.asked))
+      inl (subst (NumberAmong g) (ap asked_by (sym copy.of.is)) (asked_among copy.of.entry g copy.of.asked))
 
   -- so none is left
   none_left : EachRow (at_each f groups j.sides) (λ g s. map.get s.copies b ≡ None)

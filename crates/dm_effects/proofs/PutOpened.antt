@@ -1,12 +1,11 @@
 -- The opening of a put keeps the invariant: there is one more request, and a copy in each group that was asked.
-use Rattle.std.proofs.Common.{◌≡◌, ◌≢◌, ◌⊎◌, inl, inr, ℕ, true, Option, Some, None, List, [], ◌∷◌, refl, sym, ap, subst, ◌∙◌}
+use Rattle.std.proofs.Common.{◌≡◌, ◌≢◌, ◌⊎◌, inl, inr, ℕ, true, Some, None, List, [], ◌∷◌, refl, sym, ap, subst, ◌∙◌}
 use Rattle.std.specs.FinMap as map
 use Rattle.std.proofs.lemmas.Bool.{eq-eqb}
 use Rattle.dm_base.specs.declared.identifier.GroupId.{GroupId}
 use Rattle.dm_tables.specs.Rows.{adjust}
 use Rattle.dm_tables.proofs.Adjusted.{adjusted, adjusted-beside}
 use Rattle.dm_tables.proofs.Orders.{numbers}
-use Rattle.dm_tables.proofs.Rows.{one_row}
 use Rattle.dm_durable.specs.DaemonConditions.{OneOrTwo}
 use Rattle.dm_durable.specs.Entries.{groups_asked}
 use Rattle.dm_durable.specs.Tables.{Numbered}
@@ -16,11 +15,11 @@ use Rattle.dm_model.specs.declared.state.Joint.{Joint}
 use Rattle.dm_model.specs.declared.state.OpenRequest.{OpenRequest}
 use Rattle.dm_model.specs.declared.state.Side.{Side}
 use Rattle.dm_model.specs.Effects.{after_opening, at_each}
-use Rattle.dm_model.specs.Files.{asked_by, is_put}
+use Rattle.dm_model.specs.Files.{is_put}
 use Rattle.dm_model.specs.SideShare.{side_after_opening}
 use Rattle.dm_invariant.specs.Doubts.{MayLandIf}
 use Rattle.dm_invariant.specs.Kept.{SideKept, committed_in, deleted_in, InvariantHolds}
-use Rattle.dm_invariant.proofs.AskedGroups.{NumberAmong, among_asked, among_cons, among_one, number_first, number_later}
+use Rattle.dm_invariant.proofs.AskedGroups.{NumberAmong, among_asked, number_first, number_later}
 use Rattle.dm_effects.proofs.CopyOpened.{side_put_opened}
 use Rattle.dm_effects.proofs.PutEnded.{groups_at_each, there_later}
 use Rattle.dm_effects.proofs.RequestsOpened.{RequestOpens, number_free, requests_with, recalls_request_opened}
@@ -84,13 +83,15 @@ module _ (j : Joint) (kept : InvariantHolds j) (settled : j.daemon.doubt ≡ Non
       (record {
         free = free;
         put = put;
-        entry = e;
-        is = opens.entry.is;
-        asked = among_asked e g among;
+        of = record {
+          entry = e;
+          is = opens.entry.is;
+          asked = among_asked e g among;
+          bytes = opens.content.bytes;
+          content = opens.content.is;
+          sized = sym (opens.content.len e opens.entry.is);
+        };
         len_is = len_is;
-        bytes = opens.content.bytes;
-        content = opens.content.is;
-        whole = sym (opens.content.len e opens.entry.is) ∙ len_is;
         unreserved = λ c copy. absurd (no_copy g s at c copy);
       }) (kept.sides g s at)
 

@@ -119,13 +119,8 @@ module _ (reservations : Numbered Reserved) (copies : Numbered CopyState) (n b :
             let len = ap (λ (d : CopyState). d.len) at.1.2 in
             let request = ap (λ (d : CopyState). d.request) at.1.2 in
             record {
-              entry = k.entry;
-              is = k.is;
-              asked = k.asked;
+              of = k.of;
               len = k.len ∙ sym len;
-              bytes = k.bytes;
-              content = k.content;
-              whole = k.whole ∙ sym len;
               put = record {
                 request = k.put.request;
                 is = ap (map.get requests) request ∙ k.put.is;
@@ -137,13 +132,8 @@ module _ (reservations : Numbered Reserved) (copies : Numbered CopyState) (n b :
         | inr beside ↦
             let k = each q c beside.1 in
             record {
-              entry = k.entry;
-              is = k.is;
-              asked = k.asked;
+              of = k.of;
               len = k.len;
-              bytes = k.bytes;
-              content = k.content;
-              whole = k.whole;
               put = k.put;
               reservation = λ held has.
                   let was = k.reservation held has in

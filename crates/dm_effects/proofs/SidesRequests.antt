@@ -1,5 +1,5 @@
 -- A side is kept where the puts of its copies stay open.
-use Rattle.std.proofs.Common.{◌≡◌, ℕ, ◌<◌, ◌≤◌, true, false, Option, Some, None, List, refl, sym, ap, ◌∙◌, arith}
+use Rattle.std.proofs.Common.{◌≡◌, ℕ, false, Some, None, List, ap, ◌∙◌}
 use Rattle.std.specs.FinMap as map
 use Rattle.dm_tables.proofs.Orders.{numbers}
 use Rattle.dm_tables.proofs.Rows.{removed-beside, one_row}
@@ -8,11 +8,10 @@ use Rattle.dm_durable.specs.declared.daemon.Entry.{Entry}
 use Rattle.dm_model.specs.declared.state.CopyState.{CopyState}
 use Rattle.dm_model.specs.declared.state.OpenRequest.{OpenRequest}
 use Rattle.dm_model.specs.declared.state.Side.{Side}
-use Rattle.dm_model.specs.Files.{is_put, is_recall}
+use Rattle.dm_model.specs.Files.{is_put}
 use Rattle.dm_invariant.specs.Kept.{SideKept}
 use Rattle.dm_invariant.specs.Reservations.{PutOf}
 use Rattle.dm_invariant.proofs.LookUps.{beside_free}
-use Rattle.dm_effects.proofs.RequestsEnded.{recall_no_put}
 
 -- the puts of one table of requests are puts of another, under their numbers
 abbrev pub PutsStay : Numbered OpenRequest → Numbered OpenRequest → Type 0
@@ -35,13 +34,8 @@ side_copies_stay entries contents taken requests later g committed deleted s sta
     copy = λ b c is.
         let f = k.reservations.copy b c is in
         record {
-          entry = f.entry;
-          is = f.is;
-          asked = f.asked;
+          of = f.of;
           len = f.len;
-          bytes = f.bytes;
-          content = f.content;
-          whole = f.whole;
           put = stay b c is f.put;
           reservation = f.reservation;
         };

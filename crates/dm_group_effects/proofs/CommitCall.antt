@@ -22,7 +22,6 @@ use Rattle.dm_durable.specs.GroupConditions.{LiesOn, MayCommit}
 use Rattle.dm_durable.specs.declared.daemon.Entry.{Entry}
 use Rattle.dm_durable.specs.declared.group.GroupRecord.{GroupRecord}
 use Rattle.dm_durable.specs.declared.group.GroupStep.TheVariants as step
-use Rattle.dm_durable.specs.declared.group.VolumeRow.{VolumeRow}
 use Rattle.dm_durable.specs.Volumes.{tip_in}
 use Rattle.dm_model.specs.declared.plan.Ending.TheVariants as ending
 use Rattle.dm_model.specs.declared.state.GroupHistory.{GroupHistory}
@@ -167,7 +166,7 @@ module _ (g : ℕ) (entries : Numbered Entry) (contents : Numbered (List ℕ)) (
 
   -- the chunks that are committed
   abbrev all_chunks : List Chunk
-  all_chunks = flat_map (λ p. prelude.map (with_sum p.version copied.bytes) (chunks_of r.chunk p)) r.pieces
+  all_chunks = flat_map (λ p. prelude.map (with_sum p.version copied.of.bytes) (chunks_of r.chunk p)) r.pieces
 
   -- a chunk with its piece
   record ChunkMade (c : Chunk) : Type 0 where
@@ -175,13 +174,13 @@ module _ (g : ℕ) (entries : Numbered Entry) (contents : Numbered (List ℕ)) (
     among : IsAmong piece r.pieces
     base : Chunk
     part : IsAmong base (chunks_of r.chunk piece)
-    same : with_sum piece.version copied.bytes base ≡ c
+    same : with_sum piece.version copied.of.bytes base ≡ c
     inside : ChunkInside r.chunk piece base
     hand : ZoneInHand s.group.tables.volumes s.group.tips r.chunk piece
 
   chunk_made : (c : Chunk) → IsAmong c all_chunks → ChunkMade c
   chunk_made c among =
-      let of = summed_of r.chunk copied.bytes r.pieces c among in
+      let of = summed_of r.chunk copied.of.bytes r.pieces c among in
       record {
         piece = of.piece;
         among = of.among;
@@ -253,7 +252,7 @@ module _ (g : ℕ) (entries : Numbered Entry) (contents : Numbered (List ℕ)) (
 
   -- a chunk of a zone in hand is in hand
   base_in_hand : (p : Piece) (c : Chunk) → ChunkInside r.chunk p c → ZoneInHand s.group.tables.volumes s.group.tips r.chunk p
-      → ChunkInHand s.group.tables.volumes s.group.tips (with_sum p.version copied.bytes c)
+      → ChunkInHand s.group.tables.volumes s.group.tips (with_sum p.version copied.of.bytes c)
   base_in_hand p c inside hand =
       let at : p.vsn.0 ≡ c.vsn.0 = sym (ap (λ x. x.0) inside.volume) in
       let within : zone_end r.chunk p ≤ tip_in s.group.tips c.vsn.0 hand.volume =
@@ -277,7 +276,7 @@ module _ (g : ℕ) (entries : Numbered Entry) (contents : Numbered (List ℕ)) (
       subst (ChunkInHand s.group.tables.volumes s.group.tips) m.same (base_in_hand m.piece m.base m.inside m.hand)
 
   base_lies : (p : Piece) (c : Chunk) → ChunkInside r.chunk p c → ZoneInHand s.group.tables.volumes s.group.tips r.chunk p
-      → LiesOn s.group.tables.volumes (with_sum p.version copied.bytes c)
+      → LiesOn s.group.tables.volumes (with_sum p.version copied.of.bytes c)
   base_lies p c inside hand =
       let at : c.vsn.0 ≡ p.vsn.0 = ap (λ x. x.0) inside.volume in
       let tip = (kept.volumes.volume p.vsn.0 hand.volume hand.is).tip in
@@ -299,10 +298,10 @@ module _ (g : ℕ) (entries : Numbered Entry) (contents : Numbered (List ℕ)) (
       let m = chunk_made c among in
       subst (LiesOn s.group.tables.volumes) m.same (base_lies m.piece m.base m.inside m.hand)
 
-  made_right : (c : Chunk) → IsAmong c all_chunks → SumRight copied.bytes c
+  made_right : (c : Chunk) → IsAmong c all_chunks → SumRight copied.of.bytes c
   made_right c among =
       let m = chunk_made c among in
-      subst (SumRight copied.bytes) m.same (sum_right (has_sum m.piece.version) _)
+      subst (SumRight copied.of.bytes) m.same (sum_right (has_sum m.piece.version) _)
 
   -- no other reservation is of the bitfile
   alone : EachRow (map.remove s.group.reservations n) (λ m q. q.bfid.0 ≡ r.bfid.0 → ⊥)
@@ -315,21 +314,21 @@ module _ (g : ℕ) (entries : Numbered Entry) (contents : Numbered (List ℕ)) (
 
   -- each chunk is known to be its part of the content
   made_known : all_written (map.get contents r.bfid.0) r (reservation_in (map.get s.copies r.bfid.0)) ≡ true → (c : Chunk) → IsAmong c all_chunks
-      → ChunkKnown s.images copied.bytes c
+      → ChunkKnown s.images copied.of.bytes c
   made_known all c among =
-      let content = ap (λ o. all_written o r (reservation_in (map.get s.copies r.bfid.0))) copied.content in
-      let copy = ap (λ o. all_written (Some copied.bytes) r (reservation_in o)) mine.is in
-      let held = ap (λ o. all_written (Some copied.bytes) r o) mine.has in
-      let every : are_written copied.bytes r mine.held.written 0 r.pieces ≡ true = sym (content ∙ copy ∙ held) ∙ all in
+      let content = ap (λ o. all_written o r (reservation_in (map.get s.copies r.bfid.0))) copied.of.content in
+      let copy = ap (λ o. all_written (Some copied.of.bytes) r (reservation_in o)) mine.is in
+      let held = ap (λ o. all_written (Some copied.of.bytes) r o) mine.has in
+      let every : are_written copied.of.bytes r mine.held.written 0 r.pieces ≡ true = sym (content ∙ copy ∙ held) ∙ all in
       let m = chunk_made c among in
-      let w = piece_written copied.bytes r mine.held.written 0 r.pieces m.piece every m.among in
+      let w = piece_written copied.of.bytes r mine.held.written 0 r.pieces m.piece every m.among in
       let at : 0 + w.0 ≡ w.0 = omega arith in
       let is : map.get mine.held.written w.0 ≡ Some w.2.row = ap (map.get mine.held.written) (sym at) ∙ w.2.is in
-      let zone = zone_known s.images copied.bytes r m.piece w.2.row (mine.written w.0 w.2.row is m.piece w.1) w.2.zone in
-      let known = chunk_known (known_on s.images m.piece.vsn.0) m.piece w.2.row.epoch r.bfid.0 r.len r.chunk copied.bytes m.base w.2.within zone m.part in
+      let zone = zone_known s.images copied.of.bytes r m.piece w.2.row (mine.written w.0 w.2.row is m.piece w.1) w.2.zone in
+      let known = chunk_known (known_on s.images m.piece.vsn.0) m.piece w.2.row.epoch r.bfid.0 r.len r.chunk copied.of.bytes m.base w.2.within zone m.part in
       let base = subst (λ x. known_bytes (known_on s.images x.0) m.base.place m.base.len
-      ≡ Some (take m.base.len (drop m.base.offset copied.bytes))) (sym m.inside.volume) known in
-      subst (ChunkKnown s.images copied.bytes) m.same base
+      ≡ Some (take m.base.len (drop m.base.offset copied.of.bytes))) (sym m.inside.volume) known in
+      subst (ChunkKnown s.images copied.of.bytes) m.same base
 
   -- the group wasn't told to delete it, since its put is open
   undeleted : EachRow requests (λ k q. RequestEntry entries q) → EachRow entries (λ b e. e.dropping ≡ is_some (map.get taken b))
@@ -348,18 +347,13 @@ module _ (g : ℕ) (entries : Numbered Entry) (contents : Numbered (List ℕ)) (
       → CommitNeeds g entries contents s.images s.group.tables.volumes s.group.tips deleted (map.remove s.group.reservations n) r.bfid.0 r.len all_chunks
   commit_needs_are all not = record {
     puts = record {
-      entry = copied.entry;
-      is = copied.is;
-      asked = copied.asked;
-      bytes = copied.bytes;
-      content = copied.content;
-      sized = copied.whole ∙ sym copied.len;
+      of = copied.of;
       known = made_known all;
       sums = made_right;
       hand = made_in_hand;
       undeleted = not;
     };
-    whole = copied.whole ∙ mine.len;
+    whole = copied.of.sized ∙ copied.len ∙ mine.len;
     apart = made_apart;
     unreserved = alone;
   }
@@ -368,7 +362,7 @@ module _ (g : ℕ) (entries : Numbered Entry) (contents : Numbered (List ℕ)) (
   may_commit = record {
     new = mine.new;
     stands = record {
-      joins = summed_join r.chunk copied.bytes 0 r.pieces r.len mine.some mine.joins;
+      joins = summed_join r.chunk copied.of.bytes 0 r.pieces r.len mine.some mine.joins;
       lies = each_lies s.group.tables.volumes all_chunks made_lies;
     };
   }
@@ -491,9 +485,9 @@ module _ (j : Joint) (kept : InvariantHolds j) (w : ℕ) (g : GroupId) (s : Side
     commit_pays sums all right =
         let k = own.reservations.reservation n r is in
         let c = own.reservations.copy r.bfid.0 k.copy k.is in
-        let same = sums_are (map.get j.history.contents r.bfid.0) c.bytes r sums c.content right in
+        let same = sums_are (map.get j.history.contents r.bfid.0) c.of.bytes r sums c.of.content right in
         commit_pays_as all (summed_chunks r.chunk r.pieces sums)
-        (sym (summed_are r.chunk c.bytes r.pieces) ∙ ap (summed_chunks r.chunk r.pieces) (sym same))
+        (sym (summed_are r.chunk c.of.bytes r.pieces) ∙ ap (summed_chunks r.chunk r.pieces) (sym same))
 
   pub commit_kept : (n : ℕ) (sums : List (List ℕ)) (now : ℕ) (o : Option Reserved) → map.get s.group.reservations n ≡ o
       → CallKept j w (commit g s.group n sums now o) (commit_needs j.history.contents s.copies n sums o)

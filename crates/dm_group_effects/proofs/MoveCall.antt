@@ -17,11 +17,9 @@ use Rattle.dm_durable.specs.declared.daemon.Entry.{Entry}
 use Rattle.dm_durable.specs.declared.group.BitfileRow.{BitfileRow}
 use Rattle.dm_durable.specs.declared.group.GroupRecord.{GroupRecord}
 use Rattle.dm_durable.specs.declared.group.GroupStep.TheVariants as step
-use Rattle.dm_durable.specs.declared.group.VolumeRow.{VolumeRow}
 use Rattle.dm_durable.specs.Group.{chunk_at}
 use Rattle.dm_durable.specs.GroupConditions.{MayMove}
 use Rattle.dm_durable.specs.Tables.{Named, Numbered}
-use Rattle.dm_durable.specs.Volumes.{tip_in}
 use Rattle.dm_model.specs.declared.state.GroupHistory.{GroupHistory}
 use Rattle.dm_model.specs.declared.state.Image.{Image}
 use Rattle.dm_model.specs.declared.state.Joint.{Joint}
@@ -286,26 +284,26 @@ module _ (g : ℕ) (entries : Numbered Entry) (contents : Numbered (List ℕ)) (
     part = read_of contents x.bfid.0 x.from mine.source.read moved.bytes moved.got mine.read
 
     -- what was read is the part of the content at the chunk that is moved
-    goes_part : part_of file.bytes x.to.offset x.to.len ≡ moved.bytes
+    goes_part : part_of file.of.bytes x.to.offset x.to.len ≡ moved.bytes
     goes_part =
-        let same : file.bytes ≡ part.whole = same_row (map.get contents x.bfid.0) file.bytes part.whole file.content part.content in
-        ap (λ n. part_of file.bytes n x.to.len) mine.moved.offset ∙ ap (λ n. part_of file.bytes x.from.offset n) mine.moved.len
+        let same : file.of.bytes ≡ part.whole = same_row (map.get contents x.bfid.0) file.of.bytes part.whole file.of.content part.content in
+        ap (λ n. part_of file.of.bytes n x.to.len) mine.moved.offset ∙ ap (λ n. part_of file.of.bytes x.from.offset n) mine.moved.len
         ∙ ap (λ xs. part_of xs x.from.offset x.from.len) same ∙ part.part
 
-    goes_known : ChunkKnown s.images file.bytes goes
+    goes_known : ChunkKnown s.images file.of.bytes goes
     goes_known =
         let written = written_of s.images x.version x.to mine.target.written moved.zone moved.put mine.written in
         let some : 0 < x.to.len = subst (λ n. 0 < n) (sym mine.moved.len) mine.some in
         let inside = joins_within 0 has.row.len has.row.chunks x.from file.joins (chunk_among x.from.offset has.row.chunks x.from has.at) in
-        let whole = file.whole in
+        let whole = file.of.sized ∙ file.len in
         let offset = mine.moved.offset in
         let len = mine.moved.len in
-        moved_known s.images x.version mine.target.epoch x.bfid.0 x.total x.to moved.zone file.bytes moved.bytes
+        moved_known s.images x.version mine.target.epoch x.bfid.0 x.total x.to moved.zone file.of.bytes moved.bytes
         (omega (arith, inside, whole, offset, len)) some goes_part (part.len ∙ sym mine.moved.len) mine.moved.place
         (moved.same ∙ ap (λ n. zone_of x.version mine.target.epoch x.bfid.0 x.total n moved.bytes (length moved.bytes)) (sym mine.moved.offset))
         written
 
-    goes_right : IsSumOf (part_of file.bytes goes.offset goes.len) sum
+    goes_right : IsSumOf (part_of file.of.bytes goes.offset goes.len) sum
     goes_right =
         subst (λ xs. IsSumOf xs sum) (sym goes_part)
         (subst (IsSumOf moved.bytes) (sym moved.right) (sum_right (has_sum x.version) moved.bytes))
@@ -316,14 +314,9 @@ module _ (g : ℕ) (entries : Numbered Entry) (contents : Numbered (List ℕ)) (
 
     move_needs : PutNeeds g entries contents s.images s.group.tables.volumes s.group.tips deleted x.bfid.0 (λ c. c ≡ goes)
     move_needs = record {
-      entry = file.entry;
-      is = file.is;
-      asked = file.asked;
-      bytes = file.bytes;
-      content = file.content;
-      sized = file.whole ∙ sym file.len;
-      known = λ c same. subst (ChunkKnown s.images file.bytes) (sym same) goes_known;
-      sums = λ c same. subst (λ (d : Chunk). IsSumOf (part_of file.bytes d.offset d.len) d.sum) (sym same) goes_right;
+      of = file.of;
+      known = λ c same. subst (ChunkKnown s.images file.of.bytes) (sym same) goes_known;
+      sums = λ c same. subst (λ (d : Chunk). IsSumOf (part_of file.of.bytes d.offset d.len) d.sum) (sym same) goes_right;
       hand = λ c same. subst (ChunkInHand s.group.tables.volumes s.group.tips) (sym same) goes_in_hand;
       undeleted = undeleted (map.get deleted x.bfid.0) refl;
     }

@@ -72,8 +72,8 @@ live_once entries contents taken requests g committed deleted s epoch b row c is
         behind = lies.behind;
         within = lies.within;
         sum = lies.sum;
-        bytes = file.bytes;
-        content = file.content;
+        bytes = file.of.bytes;
+        content = file.of.content;
         known = file.known c among;
         right = file.sums c among;
         beside_kept = λ n offset place covers has.

@@ -140,13 +140,8 @@ module _ (reservations : Numbered Reserved) (copies : Numbered CopyState) (n : �
             let len = ap (λ (e : CopyState). e.len) here.1.2 in
             let request = ap (λ (e : CopyState). e.request) here.1.2 in
             record {
-              entry = k.entry;
-              is = k.is;
-              asked = k.asked;
+              of = k.of;
               len = k.len ∙ sym len;
-              bytes = k.bytes;
-              content = k.content;
-              whole = k.whole ∙ sym len;
               put = record { request = k.put.request; is = ap (map.get requests) request ∙ k.put.is; put = k.put.put; same = k.put.same };
               reservation = λ held has.
                   let mine : new_reservation n ≡ held =
@@ -160,13 +155,8 @@ module _ (reservations : Numbered Reserved) (copies : Numbered CopyState) (n : �
         | inr beside ↦
             let k = each q d beside.1 in
             record {
-              entry = k.entry;
-              is = k.is;
-              asked = k.asked;
+              of = k.of;
               len = k.len;
-              bytes = k.bytes;
-              content = k.content;
-              whole = k.whole;
               put = k.put;
               reservation = λ held has.
                   let was = k.reservation held has in

@@ -1,12 +1,12 @@
 -- The copy that a group has of a bitfile is the content of the bitfile.
-use Rattle.std.proofs.Common.{◌≡◌, ℕ, zero, suc, ◌+◌, ◌<◌, ◌≤◌, Bool, true, false, cond, ◌&&◌, nat_eq, nat_lt, Option, None, Some, IsSome, List, []}
-use Rattle.std.proofs.Common.{◌∷◌, ◌++◌, length, take, drop, refl, sym, ap, subst, ◌∙◌, inl, inr, arith, length-append, length-drop}
-use Rattle.std.proofs.lemmas.Bool.{eq-eqb, eqb-true, lt-ltb, ltb-true, and_parts}
-use Rattle.std.proofs.lemmas.List.{take-append-drop, drop-drop, drop_all, drop_at, take_at}
+use Rattle.std.proofs.Common.{◌≡◌, ℕ, ◌+◌, ◌<◌, true, false, cond, ◌&&◌, nat_eq, nat_lt, None, Some, IsSome, List, []}
+use Rattle.std.proofs.Common.{◌∷◌, ◌++◌, length, take, drop, refl, sym, ap, subst, ◌∙◌, inl, inr, arith}
+use Rattle.std.proofs.lemmas.Bool.{eq-eqb, lt-ltb}
+use Rattle.std.proofs.lemmas.List.{take-append-drop, drop-drop, drop_all}
 use Rattle.std.specs.FinMap.{get}
 use Rattle.dm_base.specs.declared.identifier.GroupId.{GroupId}
 use Rattle.dm_base.specs.declared.volume.Chunk.{Chunk}
-use Rattle.dm_rules.specs.Known.{Known, byte_and, known_bytes}
+use Rattle.dm_rules.specs.Known.{known_bytes}
 use Rattle.dm_tables.proofs.Rows.{one_row}
 use Rattle.dm_durable.specs.Entries.{is_stored, groups_asked}
 use Rattle.dm_durable.specs.GroupConditions.{Joins}
@@ -27,7 +27,6 @@ use Rattle.dm_invariant.specs.StandsFor.{copy_or, first_copy}
 use Rattle.dm_invariant.specs.Kept.{InvariantHolds}
 use Rattle.dm_invariant.proofs.Options.{value_of}
 use Rattle.dm_invariant.proofs.AskedGroups.{first_asked, asked_stored}
-use Rattle.std.proofs.lemmas.Option.{same_Some, cond_some}
 
 -- ---- chunks that join and are known assemble
 
@@ -61,92 +60,6 @@ assembled_content : (images : Named Image) (row : BitfileRow) (bytes : List ℕ)
     → joined_from images 0 row.len row.chunks ≡ Some bytes
 assembled_content images row bytes joins known whole = joined_content images bytes 0 row.len row.chunks joins known whole
 
--- ---- chunks that assemble join and are known
-
-byte_more : (o : Option ℕ) (os : Option (List ℕ)) (n : ℕ) (bs : List ℕ) → ((rest : List ℕ) → os ≡ Some rest → length rest ≡ n)
-    → byte_and o os ≡ Some bs → length bs ≡ suc n
-byte_more None os n bs rest is = cc
-byte_more (Some b) None n bs rest is = cc
-byte_more (Some b) (Some tail) n bs rest is = sym (ap length (same_Some (b ∷ tail) bs is)) ∙ ap suc (rest tail refl)
-
--- known bytes are as many as were asked for
-known_length : (known : Known) (place n : ℕ) (bs : List ℕ) → known_bytes known place n ≡ Some bs → length bs ≡ n
-unfolding known_bytes
-known_length known place zero bs is = sym (ap length (same_Some [] bs is))
-known_length known place (suc n) bs is =
-    byte_more (get known place) (known_bytes known (place + 1) n) n bs (λ rest there. known_length known (place + 1) n rest there) is
-
--- the bytes of a chunk and those behind it
-record Parts (test : Bool) (o p : Option (List ℕ)) (whole : List ℕ) : Type 0 where
-  passed : test ≡ true
-  first : List ℕ
-  is_first : o ≡ Some first
-  rest : List ℕ
-  is_rest : p ≡ Some rest
-  joined : first ++ rest ≡ whole
-
-parts : (test : Bool) (o p : Option (List ℕ)) (whole : List ℕ) → cond test (bytes_and o p) None ≡ Some whole → Parts test o p whole
-parts false o p whole e = cc
-parts true None p whole e = cc
-parts true (Some x) None whole e = cc
-parts true (Some x) (Some y) whole e = record {
-  passed = refl;
-  first = x;
-  is_first = refl;
-  rest = y;
-  is_rest = refl;
-  joined = same_Some (x ++ y) whole e;
-}
-
--- what chunks that assemble to the bytes from an offset on are
-pub record JoinedKnown (images : Named Image) (bytes : List ℕ) (from end : ℕ) (cs : List Chunk) : Type 0 where
-  pub joins : Joins from cs end
-  pub whole : length bytes ≡ end
-  pub known : (c : Chunk) → IsAmong c cs → ChunkKnown images bytes c
-
--- the bytes of the first of them end before the end
-part_within : (x y bytes : List ℕ) (from n : ℕ) → from ≤ length bytes → length x ≡ n → x ++ y ≡ drop from bytes → from + n ≤ length bytes
-part_within x y bytes from n below long joined =
-    let a = ap length joined in
-    let b = length-append x y in
-    let c = length-drop from bytes in
-    omega arith
-
-joined_known : (images : Named Image) (bytes : List ℕ) (from end : ℕ) (cs : List Chunk) → from ≤ length bytes
-    → joined_from images from end cs ≡ Some (drop from bytes) → JoinedKnown images bytes from end cs
-joined_known images bytes from end [] below is =
-    let e = cond_some (nat_eq from end) [] (drop from bytes) is in
-    let same = eqb-true from end e.0 in
-    let none = ap length e.1 in
-    let left = length-drop from bytes in
-    record { joins = same; whole = omega (arith, same, none, left, below); known = λ c among. absurd among }
-joined_known images bytes from end (c ∷ cs) below is =
-    let known = known_on images c.vsn.0 in
-    let later = joined_from images (from + c.len) end cs in
-    let p = parts (nat_eq c.offset from && nat_lt 0 c.len) (known_bytes known c.place c.len) later (drop from bytes) is in
-    let tests = and_parts (nat_eq c.offset from) (nat_lt 0 c.len) p.passed in
-    let at = eqb-true c.offset from tests.0 in
-    let long = known_length known c.place c.len p.first p.is_first in
-    let behind : p.rest ≡ drop (from + c.len) bytes =
-    sym (drop_at p.first p.rest c.len long) ∙ ap (drop c.len) p.joined ∙ drop-drop c.len from bytes in
-    let here : p.first ≡ take c.len (drop c.offset bytes) =
-    sym (take_at p.first p.rest c.len long) ∙ ap (take c.len) p.joined ∙ ap (λ m. take c.len (drop m bytes)) (sym at) in
-    let within = part_within p.first p.rest bytes from c.len below long p.joined in
-    let after = joined_known images bytes (from + c.len) end cs within (p.is_rest ∙ ap Some behind) in
-    record {
-      joins = (at, ltb-true 0 c.len tests.1, after.joins);
-      whole = after.whole;
-      known = λ d among. elim among [
-        | inl same ↦ subst (λ x. ChunkKnown images bytes x) (sym same) (p.is_first ∙ ap Some here)
-        | inr among ↦ after.known d among
-      ];
-    }
-
--- the chunks of a bitfile's row that assemble
-pub assembled_known : (images : Named Image) (row : BitfileRow) (bytes : List ℕ) → joined_from images 0 row.len row.chunks ≡ Some bytes
-    → JoinedKnown images bytes 0 row.len row.chunks
-assembled_known images row bytes is = joined_known images bytes 0 row.len row.chunks (omega arith) is
-
 -- ---- copies
 
 -- the copy of a bitfile that a group has is its content
@@ -154,7 +67,8 @@ copy_is_content : (g : ℕ) (entries : Numbered Entry) (contents : Numbered (Lis
     → BitfileKept g entries contents volumes s.images b row → get s.group.tables.bitfiles b ≡ Some row
     → (bytes : List ℕ) × (assembled_bytes s b ≡ Some bytes) × (get contents b ≡ Some bytes) × (length bytes ≡ row.len)
 copy_is_content g entries contents volumes s b row f is =
-    (f.bytes, ap (assembled_bytes_of s.images) is ∙ assembled_content s.images row f.bytes f.joins f.known f.whole, f.content, f.whole)
+    let whole = f.of.sized ∙ f.len in
+    (f.of.bytes, ap (assembled_bytes_of s.images) is ∙ assembled_content s.images row f.of.bytes f.joins f.known whole, f.of.content, whole)
 
 -- and has the length of its entry
 pub copy_of_entry : (g : ℕ) (entries : Numbered Entry) (contents : Numbered (List ℕ)) (volumes : Named VolumeRow) (s : Side) (b : ℕ) (e : Entry)
@@ -165,7 +79,7 @@ copy_of_entry g entries contents volumes s b e k is there =
     let row = value_of (get s.group.tables.bitfiles b) there in
     let f = k b row.0 row.1 in
     let copy = copy_is_content g entries contents volumes s b row.0 f row.1 in
-    (copy.0, copy.1, copy.2, copy.3 ∙ sym f.len ∙ ap (λ x. x.len) (one_row entries b b f.entry e refl f.is is))
+    (copy.0, copy.1, copy.2, copy.3 ∙ sym f.len ∙ ap (λ x. x.len) (one_row entries b b f.of.entry e refl f.of.is is))
 
 first_is : (sides : Numbered Side) (b : ℕ) (asked : List GroupId) (g : GroupId) (rest : List GroupId) (s : Side) (bytes : List ℕ) → asked ≡ g ∷ rest
     → get sides g.0 ≡ Some s → assembled_bytes s b ≡ Some bytes → first_copy sides b asked ≡ bytes

@@ -25,28 +25,35 @@ pub record LiesBefore (volumes : Named VolumeRow) (c : Chunk) : Type 0 where
   pub within : c.place + c.len ≤ volume.end
   pub sum : is_some c.sum ≡ has_sum volume.version
 
--- a bitfile of the group: its entry asks the group, its chunks join, lie on volumes, and are known to be its content
-pub record BitfileKept (g : ℕ) (entries : Numbered Entry) (contents : Numbered (List ℕ)) (volumes : Named VolumeRow) (images : Named Image) (b : ℕ)
-    (row : BitfileRow) : Type 0 where
+-- a bitfile that was asked of the group: its entry asks the group, and its content is known and has the entry's length
+pub record AskedBitfile (g : ℕ) (entries : Numbered Entry) (contents : Numbered (List ℕ)) (b : ℕ) : Type 0 where
   pub entry : Entry
   pub is : map.get entries b ≡ Some entry
   pub asked : asks entry g ≡ true
-  pub len : entry.len ≡ row.len
   pub bytes : List ℕ
   pub content : map.get contents b ≡ Some bytes
-  pub whole : length bytes ≡ row.len
+  pub sized : length bytes ≡ entry.len
+
+-- a bitfile of the group: it was asked of it, and its chunks join, lie on volumes, and are known to be its content
+pub record BitfileKept (g : ℕ) (entries : Numbered Entry) (contents : Numbered (List ℕ)) (volumes : Named VolumeRow) (images : Named Image) (b : ℕ)
+    (row : BitfileRow) : Type 0 where
+  pub of : AskedBitfile g entries contents b
+  pub len : of.entry.len ≡ row.len
   pub joins : Joins 0 row.chunks row.len
   pub lies : (c : Chunk) → IsAmong c row.chunks → LiesBefore volumes c
-  pub known : (c : Chunk) → IsAmong c row.chunks → ChunkKnown images bytes c
-  pub sums : (c : Chunk) → IsAmong c row.chunks → SumRight bytes c
+  pub known : (c : Chunk) → IsAmong c row.chunks → ChunkKnown images of.bytes c
+  pub sums : (c : Chunk) → IsAmong c row.chunks → SumRight of.bytes c
+
+-- what an entry says is stored is there, unless it is being dropped
+abbrev pub StoredKept : ℕ → Numbered Entry → Numbered BitfileRow → Type 0
+StoredKept g entries bitfiles = EachRow entries (λ b e. e.dropping ≡ false → has_stored e g ≡ true → IsSome (map.get bitfiles b))
 
 -- the bitfiles of a group agree with the entries, and with what was committed and deleted
 pub record CatalogueKept (g : ℕ) (entries : Numbered Entry) (contents : Numbered (List ℕ)) (taken : Numbered (Unit {0})) (volumes : Named VolumeRow)
     (images : Named Image) (bitfiles : Numbered BitfileRow) (committed deleted : Numbered (Unit {0})) : Type 0 where
   pub bitfile : EachRow bitfiles (BitfileKept g entries contents volumes images)
-  -- what an entry says is stored is there, unless it is being dropped
-  pub stored : EachRow entries (λ b e. e.dropping ≡ false → has_stored e g ≡ true → IsSome (map.get bitfiles b))
-  -- so is what was committed; and its content is known
+  pub stored : StoredKept g entries bitfiles
+  -- what was committed is there, unless it is being dropped; and its content is known
   pub commits : EachRow committed (λ b u. (e : Entry) → map.get entries b ≡ Some e → e.dropping ≡ false → IsSome (map.get bitfiles b))
   pub commits_made : EachRow committed (λ b u. IsSome (map.get contents b))
   -- what the group was told to delete was taken by a hard delete, and isn't there

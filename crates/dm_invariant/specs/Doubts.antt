@@ -1,5 +1,5 @@
 -- The invariant, of steps in doubt: what a step needs so that it may land now or later, beside its conditions.
-use Rattle.std.specs.Prelude.{◌≡◌, ◌+◌, ◌≤◌, ◌<◌, ℕ, true, Option, None, Some, IsSome, List, length}
+use Rattle.std.specs.Prelude.{◌≡◌, ◌+◌, ◌≤◌, ◌<◌, ℕ, Option, None, Some, IsSome, List, length}
 use Rattle.std.specs.FinMap as map
 use Rattle.dm_base.specs.declared.conf.GroupConf.{GroupConf}
 use Rattle.dm_base.specs.declared.identifier.Bfid.{Bfid}
@@ -23,7 +23,6 @@ use Rattle.dm_durable.specs.declared.group.GroupStep.{GroupStep}
 use Rattle.dm_durable.specs.declared.group.GroupStep.TheVariants.{Volume, Commit, Delete, Move, Free, Reuse}
 use Rattle.dm_durable.specs.declared.group.VolumeRow.{VolumeRow}
 use Rattle.dm_durable.specs.Tables.{Numbered, Named}
-use Rattle.dm_durable.specs.Entries.{asks}
 use Rattle.dm_durable.specs.Daemon.{after_step, size_of}
 use Rattle.dm_durable.specs.DaemonConditions.{MayFollow}
 use Rattle.dm_durable.specs.GroupConditions.{MayGroupFollow}
@@ -35,6 +34,7 @@ use Rattle.dm_model.specs.declared.state.Reserved.{Reserved}
 use Rattle.dm_model.specs.declared.state.Side.{Side}
 use Rattle.dm_invariant.specs.Among.{IsAmong}
 use Rattle.dm_invariant.specs.Assemble.{ChunkKnown, SumRight}
+use Rattle.dm_invariant.specs.Catalogue.{AskedBitfile}
 use Rattle.dm_invariant.specs.Moves.{IsReadyAt}
 use Rattle.dm_invariant.specs.Places.{ChunksApart}
 use Rattle.dm_invariant.specs.Requests.{PutOpen}
@@ -131,18 +131,13 @@ pub record ChunkInHand (volumes : Named VolumeRow) (tips : Named ℕ) (c : Chunk
   pub headed : c.zone + zone_header + chunk_header volume.version ≤ c.place
   pub within : c.place + c.len ≤ tip_in tips c.vsn.0 volume
 
--- what a step that puts chunks of a bitfile on volumes needs: its entry asks the group, the chunks are known to be parts of
--- the content with right sums, and their zones are in hand; and the group wasn't told to delete the bitfile
+-- what a step that puts chunks of a bitfile on volumes needs: the bitfile was asked of the group, the chunks are known to be
+-- parts of the content with right sums, and their zones are in hand; and the group wasn't told to delete the bitfile
 pub record PutNeeds (g : ℕ) (entries : Numbered Entry) (contents : Numbered (List ℕ)) (images : Named Image) (volumes : Named VolumeRow)
     (tips : Named ℕ) (deleted : Numbered (Unit {0})) (b : ℕ) (IsNew : Chunk → Type 0) : Type 0 where
-  pub entry : Entry
-  pub is : map.get entries b ≡ Some entry
-  pub asked : asks entry g ≡ true
-  pub bytes : List ℕ
-  pub content : map.get contents b ≡ Some bytes
-  pub sized : length bytes ≡ entry.len
-  pub known : (c : Chunk) → IsNew c → ChunkKnown images bytes c
-  pub sums : (c : Chunk) → IsNew c → SumRight bytes c
+  pub of : AskedBitfile g entries contents b
+  pub known : (c : Chunk) → IsNew c → ChunkKnown images of.bytes c
+  pub sums : (c : Chunk) → IsNew c → SumRight of.bytes c
   pub hand : (c : Chunk) → IsNew c → ChunkInHand volumes tips c
   pub undeleted : map.get deleted b ≡ None
 
@@ -151,7 +146,7 @@ pub record PutNeeds (g : ℕ) (entries : Numbered Entry) (contents : Numbered (L
 pub record CommitNeeds (g : ℕ) (entries : Numbered Entry) (contents : Numbered (List ℕ)) (images : Named Image) (volumes : Named VolumeRow)
     (tips : Named ℕ) (deleted : Numbered (Unit {0})) (reservations : Numbered Reserved) (b len : ℕ) (chunks : List Chunk) : Type 0 where
   pub puts : PutNeeds g entries contents images volumes tips deleted b (λ c. IsAmong c chunks)
-  pub whole : length puts.bytes ≡ len
+  pub whole : length puts.of.bytes ≡ len
   pub apart : ChunksApart chunks
   pub unreserved : EachRow reservations (λ n r. r.bfid.0 ≡ b → ⊥)
 

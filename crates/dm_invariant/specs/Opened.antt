@@ -1,10 +1,8 @@
 -- Opened states: those in which a run begins.
-use Rattle.std.specs.Prelude.{◌≡◌, ◌≤◌, ℕ, false, None, IsSome}
+use Rattle.std.specs.Prelude.{◌≡◌, false, None, IsSome}
 use Rattle.std.specs.FinMap as map
 use Rattle.dm_tables.specs.Rows.{EachRow}
 use Rattle.dm_durable.specs.Tables.{Numbered}
-use Rattle.dm_durable.specs.Daemon.{size_of}
-use Rattle.dm_durable.specs.DaemonJournal.{IsGiven}
 use Rattle.dm_durable.specs.Entries.{groups_asked}
 use Rattle.dm_durable.specs.Inodes.{has_making}
 use Rattle.dm_model.specs.declared.state.Joint.{Joint}
@@ -13,21 +11,15 @@ use Rattle.dm_invariant.specs.Doubts.{AllConfigured}
 use Rattle.dm_invariant.specs.Files.{TakenKept}
 use Rattle.dm_invariant.specs.Kept.{committed_in, deleted_in}
 use Rattle.dm_invariant.specs.Sound.{Sound}
-use Rattle.dm_invariant.specs.Volumes.{ConfFits, ImagesFit, IsNumberOf, VolumeKept}
+use Rattle.dm_invariant.specs.Volumes.{ImagesFit, IsNumberOf}
 
 -- ---- what the configuration asks
 
--- a group and its volumes are as they are configured
-pub record SideFits (g : ℕ) (s : Side) : Type 0 where
-  pub number : IsNumberOf g s.group.tables.group.0
-  pub conf : ConfFits s.group.conf
-  pub volumes : EachRow s.group.tables.volumes (VolumeKept s.group.conf s.group.tips s.group.tables.time.0)
-
--- files and dumps fit under the cap, and the tables under the configuration: each group that an entry asks is configured
+-- each group that an entry asks is configured, and the tables of each group have its number. That files and dumps fit under
+-- the cap, and that volumes are those of the configuration, is of files and volumes
 pub record Fits (j : Joint) : Type 0 where
-  pub size : size_of j.daemon.tables ≤ j.daemon.cap
   pub entries : EachRow j.daemon.tables.entries (λ b e. AllConfigured j.sides (groups_asked e))
-  pub sides : EachRow j.sides SideFits
+  pub sides : EachRow j.sides (λ g s. IsNumberOf g s.group.tables.group.0)
 
 -- ---- what is lost as the program stops, and what the past shows
 
@@ -55,7 +47,5 @@ pub record Opened (j : Joint) : Type 0 where
   pub workers : j.workers ≡ map.empty
   pub ended : has_making j.daemon.tables.inodes ≡ false
   pub sides : EachRow j.sides (λ g s. let h = map.get j.history.groups g in SideOpened (committed_in h) (deleted_in h) s)
-  -- contents are of bitfiles that were made; that of one that no group has is free
-  pub contents : EachRow j.history.contents (λ b bytes. IsGiven j.daemon.tables.site j.daemon.tables.counter b)
   -- what hard deletes took are the entries that are being dropped
   pub taken : TakenKept j.daemon.tables.site j.daemon.tables.counter j.daemon.tables.entries j.history.taken

@@ -11,7 +11,6 @@ use Rattle.dm_durable.specs.declared.daemon.Entry.{Entry}
 use Rattle.dm_durable.specs.declared.group.BitfileRow.{BitfileRow}
 use Rattle.dm_durable.specs.declared.group.VolumeRow.{VolumeRow}
 use Rattle.dm_durable.specs.Tables.{Numbered, Named}
-use Rattle.dm_durable.specs.Entries.{asks}
 use Rattle.dm_durable.specs.Volumes.{tip_in}
 use Rattle.dm_model.specs.declared.state.CopyReservation.{CopyReservation}
 use Rattle.dm_model.specs.declared.state.CopyState.{CopyState}
@@ -23,6 +22,7 @@ use Rattle.dm_model.specs.Files.{is_put}
 use Rattle.dm_model.specs.GroupCalls.{piece_at}
 use Rattle.dm_invariant.specs.Among.{IsAmong}
 use Rattle.dm_invariant.specs.Assemble.{known_on}
+use Rattle.dm_invariant.specs.Catalogue.{AskedBitfile}
 
 -- the pieces are bytes of a bitfile from one offset to another: each begins where the one before ends
 abbrev pub PiecesJoin : ℕ → List Piece → ℕ → Type 0
@@ -65,16 +65,11 @@ pub record PutOf (requests : Numbered OpenRequest) (k b : ℕ) : Type 0 where
   pub put : is_put request.kind ≡ true
   pub same : request.bfid.0 ≡ b
 
--- a copy is of a bitfile whose put is open and asks the group; its length is that of the content
+-- a copy is of a bitfile that was asked of the group and whose put is open; its length is that of the entry
 pub record CopyKept (g : ℕ) (entries : Numbered Entry) (contents : Numbered (List ℕ)) (requests : Numbered OpenRequest)
     (reservations : Numbered Reserved) (b : ℕ) (c : CopyState) : Type 0 where
-  pub entry : Entry
-  pub is : map.get entries b ≡ Some entry
-  pub asked : asks entry g ≡ true
-  pub len : entry.len ≡ c.len
-  pub bytes : List ℕ
-  pub content : map.get contents b ≡ Some bytes
-  pub whole : length bytes ≡ c.len
+  pub of : AskedBitfile g entries contents b
+  pub len : of.entry.len ≡ c.len
   pub put : PutOf requests c.request b
   pub reservation : (held : CopyReservation) → c.reservation ≡ Some held
       → (r : Reserved) × (map.get reservations held.number ≡ Some r) × (r.bfid.0 ≡ b)

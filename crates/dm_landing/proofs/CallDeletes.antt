@@ -157,7 +157,7 @@ module _ (j : Joint) (kept : InvariantHolds j) (b : ℕ) (e : Entry) (is : map.g
   away_if None found = refl
   away_if (Some row) found =
       let f = (kept.sides g s at).catalogue.bitfile b row found in
-      let u = value_of (map.get deleted b) (told_of f.entry f.is f.asked) in
+      let u = value_of (map.get deleted b) (told_of f.of.entry f.of.is f.of.asked) in
       let gone = (kept.sides g s at).catalogue.deletes b u.0 u.1 in
       cc
 
@@ -171,9 +171,9 @@ module _ (j : Joint) (kept : InvariantHolds j) (b : ℕ) (e : Entry) (is : map.g
       → GroupStepNeeds g j.daemon.tables.entries j.history.contents j.history.taken deleted s now x → PutsBitfile b x → ⊥
   step_puts_not now (Volume vsn slot version size) needs puts = absurd puts
   step_puts_not now (Commit c len chunks) needs puts =
-      not_put c.0 needs.puts.entry puts needs.puts.is needs.puts.asked needs.puts.undeleted
+      not_put c.0 needs.puts.of.entry puts needs.puts.of.is needs.puts.of.asked needs.puts.undeleted
   step_puts_not now (Delete c) needs puts = absurd puts
-  step_puts_not now (Move c from to) needs puts = not_put c.0 needs.entry puts needs.is needs.asked needs.undeleted
+  step_puts_not now (Move c from to) needs puts = not_put c.0 needs.of.entry puts needs.of.is needs.of.asked needs.undeleted
   step_puts_not now (Free vsn) needs puts = absurd puts
   step_puts_not now (Reuse vsn epoch version) needs puts = absurd puts
 

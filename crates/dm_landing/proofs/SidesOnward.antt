@@ -21,7 +21,7 @@ use Rattle.dm_model.specs.declared.state.Origin.TheVariants as origin
 use Rattle.dm_model.specs.declared.state.Reserved.{Reserved}
 use Rattle.dm_model.specs.declared.state.Side.{Side}
 use Rattle.dm_invariant.specs.Among.{IsAmong}
-use Rattle.dm_invariant.specs.Catalogue.{BitfileKept, CatalogueKept}
+use Rattle.dm_invariant.specs.Catalogue.{AskedBitfile, BitfileKept, CatalogueKept}
 use Rattle.dm_invariant.specs.Doubts.{NotInGroup, PutNeeds, GroupStepNeeds, GroupMayLandIf, PutsBitfile, DoubtPuts}
 use Rattle.dm_invariant.specs.Kept.{SideKept}
 use Rattle.dm_invariant.specs.Moves.{ReadRight, MoveKept}
@@ -55,18 +55,32 @@ module _ (IsNamed : ℕ → Type 0) (sides : Numbered Side) (requests later : Nu
 
   -- ---- bitfiles
 
-  bitfile_onward : (g : ℕ) (s : Side) (b : ℕ) (row : BitfileRow) → map.get sides g ≡ Some s → map.get s.group.tables.bitfiles b ≡ Some row
-      → BitfileKept g old contents s.group.tables.volumes s.images b row → BitfileKept g new after s.group.tables.volumes s.images b row
-  bitfile_onward g s b row side is k =
-      let f = stays b k.entry k.is (λ dropping away. none_some (map.get s.group.tables.bitfiles b) row (away g s side).away is) in
+  -- one that was asked still is, where its entry can't have gone
+  abbrev asked_onward : (g b : ℕ) (k : AskedBitfile g old contents b) → ((k.entry.dropping ≡ true) → EachRow sides (λ g s. NotInGroup b s) → ⊥)
+      → AskedBitfile g new after b
+  asked_onward g b k lasting =
+      let f = stays b k.entry k.is lasting in
       record {
         entry = f.0;
         is = f.1;
         asked = f.3 g ∙ k.asked;
-        len = f.2 ∙ k.len;
         bytes = k.bytes;
         content = more b k.bytes k.content;
-        whole = k.whole;
+        sized = k.sized ∙ sym f.2;
+      }
+
+  same_length : (b : ℕ) (e : Entry) (is : map.get old b ≡ Some e) (lasting : (e.dropping ≡ true) → EachRow sides (λ g s. NotInGroup b s) → ⊥)
+      → (stays b e is lasting).0.len ≡ e.len
+  same_length b e is lasting = (stays b e is lasting).2
+
+  bitfile_onward : (g : ℕ) (s : Side) (b : ℕ) (row : BitfileRow) → map.get sides g ≡ Some s → map.get s.group.tables.bitfiles b ≡ Some row
+      → BitfileKept g old contents s.group.tables.volumes s.images b row → BitfileKept g new after s.group.tables.volumes s.images b row
+  bitfile_onward g s b row side is k =
+      let lasting : (k.of.entry.dropping ≡ true) → EachRow sides (λ g s. NotInGroup b s) → ⊥ = λ dropping away.
+      none_some (map.get s.group.tables.bitfiles b) row (away g s side).away is in
+      record {
+        of = asked_onward g b k.of lasting;
+        len = same_length b k.of.entry k.of.is lasting ∙ k.len;
         joins = k.joins;
         lies = k.lies;
         known = k.known;
@@ -123,15 +137,11 @@ module _ (IsNamed : ℕ → Type 0) (sides : Numbered Side) (requests later : Nu
       → ((k b : ℕ) → PutOf requests k b → PutOf later k b) → CopyKept g old contents requests reservations b c
       → CopyKept g new after later reservations b c
   copy_onward g reservations b c entries puts k =
-      let f = stays b k.entry k.is (λ dropping away. lasting_put c.request b k.entry entries k.put k.is dropping) in
+      let lasting : (k.of.entry.dropping ≡ true) → EachRow sides (λ g s. NotInGroup b s) → ⊥ = λ dropping away.
+      lasting_put c.request b k.of.entry entries k.put k.of.is dropping in
       record {
-        entry = f.0;
-        is = f.1;
-        asked = f.3 g ∙ k.asked;
-        len = f.2 ∙ k.len;
-        bytes = k.bytes;
-        content = more b k.bytes k.content;
-        whole = k.whole;
+        of = asked_onward g b k.of lasting;
+        len = same_length b k.of.entry k.of.is lasting ∙ k.len;
         put = puts c.request b k.put;
         reservation = k.reservation;
       }
@@ -194,14 +204,8 @@ module _ (IsNamed : ℕ → Type 0) (sides : Numbered Side) (requests later : Nu
       → PutNeeds g old contents s.images s.group.tables.volumes s.group.tips deleted b IsNew
       → PutNeeds g new after s.images s.group.tables.volumes s.group.tips deleted b IsNew
   puts_onward g s deleted b IsNew lasting k =
-      let f = stays b k.entry k.is (λ dropping away. lasting away) in
       record {
-        entry = f.0;
-        is = f.1;
-        asked = f.3 g ∙ k.asked;
-        bytes = k.bytes;
-        content = more b k.bytes k.content;
-        sized = k.sized ∙ sym f.2;
+        of = asked_onward g b k.of (λ dropping away. lasting away);
         known = k.known;
         sums = k.sums;
         hand = k.hand;

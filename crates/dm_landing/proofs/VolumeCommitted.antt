@@ -98,13 +98,8 @@ bitfile_new : (g : ℕ) (entries : Numbered Entry) (contents : Numbered (List �
     → ((c : Chunk) → IsAmong c chunks → LiesBefore (with_ends_behind chunks s.group.tables.volumes) c)
     → BitfileKept g entries contents (with_ends_behind chunks s.group.tables.volumes) s.images b (record { len = len; chunks = chunks })
 bitfile_new g entries contents s deleted b len chunks joins n lies = record {
-  entry = n.puts.entry;
-  is = n.puts.is;
-  asked = n.puts.asked;
-  len = sym n.puts.sized ∙ n.whole;
-  bytes = n.puts.bytes;
-  content = n.puts.content;
-  whole = n.whole;
+  of = n.puts.of;
+  len = sym n.puts.of.sized ∙ n.whole;
   joins = joins;
   lies = lies;
   known = n.puts.known;
@@ -156,7 +151,7 @@ bitfile_committed entries contents taken requests g committed deleted s time b l
           (λ e is lasting. ap is_some (get-here numbers t.bitfiles b.0 row))
           (λ q u is e there lasting. still_there numbers t.bitfiles b.0 row q (k.catalogue.commits q u is e there lasting));
       commits_made = each-insert numbers (λ q u. IsSome (map.get contents q)) committed b.0 tt
-          (has_value (map.get contents b.0) n.puts.bytes n.puts.content) k.catalogue.commits_made;
+          (has_value (map.get contents b.0) n.puts.of.bytes n.puts.of.content) k.catalogue.commits_made;
       deletes = λ q u is.
           get-beside numbers t.bitfiles b.0 row q (key_differs deleted b.0 q u n.puts.undeleted is) ∙ k.catalogue.deletes q u is;
       deletes_taken = k.catalogue.deletes_taken;

@@ -213,15 +213,10 @@ bitfile_moved : (g : ℕ) (entries : Numbered Entry) (contents : Numbered (List 
     → PutNeeds g entries contents images before tips deleted b (λ c. c ≡ to)
     → BitfileKept g entries contents volumes images b row → BitfileKept g entries contents volumes images b (with_chunk to row)
 bitfile_moved g entries contents images before volumes tips deleted b from to row found offset len lies n k =
-    let same : n.bytes ≡ k.bytes = same_row (map.get contents b) n.bytes k.bytes n.content k.content in
+    let same : n.of.bytes ≡ k.of.bytes = same_row (map.get contents b) n.of.bytes k.of.bytes n.of.content k.of.content in
     record {
-      entry = k.entry;
-      is = k.is;
-      asked = k.asked;
+      of = k.of;
       len = k.len;
-      bytes = k.bytes;
-      content = k.content;
-      whole = k.whole;
       joins = joins_moved from to 0 row.len row.chunks offset len found k.joins;
       lies = λ c among. elim (moved_among to row.chunks c among) [
         | inl at ↦ subst (λ x. LiesBefore volumes x) (sym at) lies

@@ -85,16 +85,11 @@ module _ (volumes after : Named VolumeRow) (tips tips_after : Named ℕ) (images
       → ((c : Chunk) → IsAmong c row.chunks → OnwardAt c.vsn.0)
       → BitfileKept g entries contents volumes images b row → BitfileKept g entries contents after images_after b row
   bitfile_onward g entries contents b row on k = record {
-    entry = k.entry;
-    is = k.is;
-    asked = k.asked;
+    of = k.of;
     len = k.len;
-    bytes = k.bytes;
-    content = k.content;
-    whole = k.whole;
     joins = k.joins;
     lies = λ c among. lies_onward c (on c among) (k.lies c among);
-    known = λ c among. let l = k.lies c among in known_onward k.bytes c l.volume (on c among) l.is (k.known c among);
+    known = λ c among. let l = k.lies c among in known_onward k.of.bytes c l.volume (on c among) l.is (k.known c among);
     sums = k.sums;
   }
 

@@ -29,7 +29,7 @@ copy_asked : (j : Joint) (g b len : ℕ) (s : Side) (o : Option CopyState) → I
 copy_asked j g b len s None k side is may = absurd (cc)
 copy_asked j g b len s (Some c) k side is may =
     let copy = (k.sides g s side).reservations.copy b c is in
-    record { entry = copy.entry; is = copy.is; asked = copy.asked; sized = copy.len ∙ eqb-true c.len len (and_parts (nat_eq c.len len) _ may).0 }
+    record { entry = copy.of.entry; is = copy.of.is; asked = copy.of.asked; sized = copy.len ∙ eqb-true c.len len (and_parts (nat_eq c.len len) _ may).0 }
 
 pub reserved_asked : (j : Joint) → InvariantHolds j → ReservedAsked j
 reserved_asked j kept g b len s side may = copy_asked j g b len s (map.get s.copies b) kept side refl may

@@ -165,11 +165,11 @@ module _ (lists : List (List ℕ)) (j : Joint) (g : GroupId) (s : Side) (own : S
       let copy = own.reservations.copy r.bfid.0 reserved.copy reserved.is in
       record {
         payload = λ c among has. record {
-          bytes = copy.bytes;
-          content = copy.content;
-          among = hashed (part_of copy.bytes c.offset c.len)
-              (subst (λ o. Contains (hashed_of_content r o) (part_of copy.bytes c.offset c.len)) (sym copy.content)
-              (summed_part r.chunk copy.bytes r.pieces sums c among has));
+          bytes = copy.of.bytes;
+          content = copy.of.content;
+          among = hashed (part_of copy.of.bytes c.offset c.len)
+              (subst (λ o. Contains (hashed_of_content r o) (part_of copy.of.bytes c.offset c.len)) (sym copy.of.content)
+              (summed_part r.chunk copy.of.bytes r.pieces sums c among has));
         };
         opens = tt;
       }

@@ -148,14 +148,14 @@ opened_row : (j : Joint) → InvariantHolds j → (g : ℕ) (s : Side) → map.g
     → (c : Chunk) → IsAmong c row.chunks → PartIn (parts_stored j) j.history.contents b c
 opened_row j kept g s side b row is c among has =
     let k = (kept.sides g s side).catalogue.bitfile b row is in
-    let part = part_of k.bytes c.offset c.len in
+    let part = part_of k.of.bytes c.offset c.len in
     record {
-      bytes = k.bytes;
-      content = k.content;
+      bytes = k.of.bytes;
+      content = k.of.content;
       among = row_within numbers (λ e. parts_on j.history.contents e.1) j.sides g s side part
           (row_within numbers (λ e. parts_of_content (map.get j.history.contents e.0) e.1.chunks) s.group.tables.bitfiles b row is part
-          (subst (λ o. Contains (parts_of_content o row.chunks) part) (sym k.content)
-          (contains_mapped (λ (d : Chunk). part_of k.bytes d.offset d.len) c row.chunks among)));
+          (subst (λ o. Contains (parts_of_content o row.chunks) part) (sym k.of.content)
+          (contains_mapped (λ (d : Chunk). part_of k.of.bytes d.offset d.len) c row.chunks among)));
     }
 
 pub opened_in : (j : Joint) → Opened j → Summed (parts_stored j) j

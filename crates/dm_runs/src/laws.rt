@@ -11,7 +11,7 @@ ghost use Rattle.dm_group_effects.specs.OnVolume.{ReadsTellApart};
 ghost use Rattle.dm_invariant.specs.Among.{IsAmong};
 ghost use Rattle.dm_invariant.specs.Kept.{InvariantHolds};
 ghost use Rattle.dm_invariant.specs.Opened.{Fits, Opened};
-ghost use Rattle.dm_invariant.specs.Sound.{Sound};
+ghost use Rattle.dm_invariant.specs.Sound.{CopiesSound, Sound};
 ghost use Rattle.dm_invariant.specs.StandsFor.{plain_of, shown_namespace};
 ghost use Rattle.dm_model.specs.declared.state.Joint.{Joint};
 ghost use Rattle.dm_model.specs.declared.state.Side.{Side};
@@ -30,11 +30,13 @@ ghost use Rattle.dm_tables.specs.Rows.{EachRow};
 
 /// A legal run from an opened state ends in a sound state that fits its configuration: whatever is put, recalled, dumped,
 /// merged and deleted meanwhile, which calls fail, which steps in doubt land, and wherever the program ends and begins again
-/// (docs/DEFINITIONS.md, "The invariant"). Each volume of the tables has an image of its size then.
+/// (docs/DEFINITIONS.md, "The invariant"). Each copy that a group has of a bitfile assembles to the bitfile's content then, and
+/// each volume of the tables has an image of its size.
 pub fn sound_kept()
     ensures kept { (j : Joint) (entries : List RunEntry) (k : Joint) → Opened j → NoCollision j entries → Run j entries k → InvariantHolds k }
     ensures sound { (j : Joint) (entries : List RunEntry) (k : Joint) → Opened j → NoCollision j entries → Run j entries k → Sound k }
     ensures fits { (j : Joint) (entries : List RunEntry) (k : Joint) → Opened j → NoCollision j entries → Run j entries k → Fits k }
+    ensures copies { (j : Joint) (entries : List RunEntry) (k : Joint) → Opened j → NoCollision j entries → Run j entries k → CopiesSound k }
     ensures volumes { (j : Joint) (entries : List RunEntry) (k : Joint) → Opened j → NoCollision j entries → Run j entries k
         → VolumesImaged k }
 {}

@@ -1,5 +1,5 @@
 -- The joint state before the first event is opened.
-use Rattle.std.proofs.Common.{◌≡◌, ◌≤◌, ℕ, true, None, List, [], ◌∷◌, option_map, refl, sym, ap, subst, inl, inr, arith, ◌∙◌}
+use Rattle.std.proofs.Common.{◌≡◌, ◌≤◌, ℕ, true, None, List, [], ◌∷◌, refl, sym, ap, subst, inl, inr, arith, ◌∙◌}
 use Rattle.std.proofs.Common.{nat_cmp}
 use Rattle.std.specs.Cmp.Lexicographic.{slice_cmp}
 use Rattle.std.specs.FinMap as map
@@ -23,22 +23,18 @@ use Rattle.dm_durable.specs.Inodes.{is_making, length_of}
 use Rattle.dm_durable.specs.Limits.{IsGroupNumber}
 use Rattle.dm_durable.specs.Volumes.{is_listed}
 use Rattle.dm_model.specs.Begin.{blank_images, empty_joint, new_daemon, new_side, new_sides, no_history}
-use Rattle.dm_model.specs.declared.state.Daemon.{Daemon}
-use Rattle.dm_model.specs.declared.state.History.{History}
 use Rattle.dm_model.specs.declared.state.Image.{Image}
-use Rattle.dm_model.specs.declared.state.Mounted.{Mounted}
-use Rattle.dm_model.specs.declared.state.MountState.{MountState}
 use Rattle.dm_model.specs.declared.state.Side.{Side}
 use Rattle.dm_invariant.specs.Among.{IsAmong}
 use Rattle.dm_invariant.specs.Kept.{committed_in, deleted_in}
-use Rattle.dm_invariant.specs.Mounts.{mounted_of}
-use Rattle.dm_invariant.specs.Opened.{Fits, Opened, SideFits, SideOpened}
+use Rattle.dm_invariant.specs.Opened.{Fits, Opened, SideOpened}
 use Rattle.dm_invariant.specs.Places.{HasPlace, Live, Reserving, Target, Doubted, Owner}
 use Rattle.dm_invariant.specs.Sound.{GroupSound, Sound}
-use Rattle.dm_invariant.specs.Volumes.{HasImage}
+use Rattle.dm_invariant.specs.Volumes.{ConfFits, HasImage, IsNumberOf}
 use Rattle.dm_invariant.proofs.LookUps.{none_in_empty}
 use Rattle.dm_invariant.proofs.Texts.{texts_equal}
 use Rattle.dm_stops.specs.FirstConf.{FirstConf}
+use Rattle.dm_stops.proofs.NothingOpen.{mounts_none, moves_none, requests_none, reservations_none}
 
 -- ---- groups
 
@@ -63,28 +59,20 @@ nobody (Reserving n offset) vsn place has = none_in_empty nat_cmp map.empty n ha
 nobody (Target job) vsn place has = none_in_empty nat_cmp map.empty job has.moving refl has.is
 nobody (Doubted zone) vsn place has = has.among
 
--- it mounts nothing
-few : (drives : ℕ) → map.len (map.empty {X = Mounted} {R = nat_cmp}) ≤ drives
-few drives = let none = map.len-empty nat_cmp Mounted in omega (arith, none)
-
-nothing_mounted : (m : ℕ) → map.get (map.empty {X = Mounted} {R = nat_cmp}) m ≡ option_map mounted_of (map.get (map.empty {X = MountState} {R = nat_cmp}) m)
-nothing_mounted m = map.get-empty {X = Mounted} nat_cmp m ∙ sym (ap (option_map mounted_of) (map.get-empty {X = MountState} nat_cmp m))
-
-group_new : (d : Daemon) (h : History) (g : ℕ) (c : GroupConf) → GroupSound d h g (new_side c)
-group_new d h g c = record {
-  asked = each-empty nat_cmp _;
-  slots = λ v w x y is other same. absurd (none_in_empty (slice_cmp nat_cmp) map.empty v x refl is);
-  bounds = each-empty (slice_cmp nat_cmp) _;
-  chunks = each-empty nat_cmp _;
-  zones = each-empty nat_cmp _;
-  targets = each-empty nat_cmp _;
-  apart = λ o p vsn place a b. absurd (nobody o vsn place a);
-  puts = each-empty nat_cmp _;
-  held = each-empty (slice_cmp nat_cmp) _;
-  mounted = nothing_mounted;
-  epochs = each-empty nat_cmp _;
-  mounts = λ m n x y is other same. absurd (none_in_empty nat_cmp map.empty m x refl is);
-  drives = few c.drives;
+group_new : (conf : DaemonConf) (g : ℕ) (c : GroupConf) → ConfFits c → GroupSound (new_daemon conf) no_history g (new_side c)
+group_new conf g c fits = record {
+  bitfiles = each-empty nat_cmp _;
+  stored = each-empty nat_cmp _;
+  volumes = record {
+    fits = fits;
+    volume = each-empty (slice_cmp nat_cmp) _;
+    slots = λ v w x y is other same. absurd (none_in_empty (slice_cmp nat_cmp) map.empty v x refl is);
+  };
+  mounts = mounts_none _ _ _;
+  reservations = reservations_none _ _ _ _ _ _ _ _ _;
+  moves = moves_none _ _ _ _ _ _;
+  reuses = each-empty nat_cmp _;
+  places = λ o p vsn place a b. absurd (nobody o vsn place a);
   doubt = tt;
 }
 
@@ -154,21 +142,6 @@ tables_new conf groups f =
 
 -- ---- the state
 
-empty_sound : (conf : DaemonConf) (groups : List GroupConf) → FirstConf conf groups → Sound (empty_joint conf groups)
-empty_sound conf groups f = record {
-  tables = tables_new conf groups f;
-  held = each-empty nat_cmp _;
-  unnamed = each-empty nat_cmp _;
-  dumps = record { young = each-empty (slice_cmp nat_cmp) _ };
-  requests = each-empty nat_cmp _;
-  copies = each-empty nat_cmp _;
-  stored = each-empty nat_cmp _;
-  groups = λ g s is.
-      let r = sides_new groups g s is in
-      subst (λ x. GroupSound (new_daemon conf) no_history g x) (sym r.new) (group_new (new_daemon conf) no_history g r.conf);
-  doubt = tt;
-}
-
 -- where there are no files and no dumps, there are no bytes
 no_bytes : (conf : DaemonConf) → size_of (empty_tables conf.site conf.first conf.age) ≤ conf.cap
 no_bytes conf =
@@ -176,23 +149,34 @@ no_bytes conf =
     let dumps = total-empty (slice_cmp nat_cmp) dump_size in
     omega (arith, files, dumps)
 
-side_fits : (conf : DaemonConf) (groups : List GroupConf) → FirstConf conf groups → (g : ℕ) (c : GroupConf) → IsAmong c groups → c.group.0 ≡ g
-    → SideFits g (new_side c)
-side_fits conf groups f g c among number =
-    let fits = f.groups_fit c among in
-    record {
-      number = record { same = number; fits = subst (λ n. IsGroupNumber n) number fits.group };
-      conf = fits;
-      volumes = each-empty (slice_cmp nat_cmp) _;
-    }
+empty_sound : (conf : DaemonConf) (groups : List GroupConf) → FirstConf conf groups → Sound (empty_joint conf groups)
+empty_sound conf groups f = record {
+  files = record {
+    state = tables_new conf groups f;
+    held = each-empty nat_cmp _;
+    unnamed = each-empty nat_cmp _;
+    contents_given = each-empty nat_cmp _;
+    size = no_bytes conf;
+  };
+  dumps = record { young = each-empty (slice_cmp nat_cmp) _ };
+  requests = requests_none _ _ _ _;
+  groups = λ g s is.
+      let r = sides_new groups g s is in
+      subst (λ x. GroupSound (new_daemon conf) no_history g x) (sym r.new) (group_new conf g r.conf (f.groups_fit r.conf r.among));
+  doubt = tt;
+}
+
+number_new : (conf : DaemonConf) (groups : List GroupConf) → FirstConf conf groups → (g : ℕ) (c : GroupConf) → IsAmong c groups → c.group.0 ≡ g
+    → IsNumberOf g c.group.0
+number_new conf groups f g c among number =
+    record { same = number; fits = subst (λ n. IsGroupNumber n) number (f.groups_fit c among).group }
 
 empty_fits : (conf : DaemonConf) (groups : List GroupConf) → FirstConf conf groups → Fits (empty_joint conf groups)
 empty_fits conf groups f = record {
-  size = no_bytes conf;
   entries = each-empty nat_cmp _;
   sides = λ g s is.
       let r = sides_new groups g s is in
-      subst (λ x. SideFits g x) (sym r.new) (side_fits conf groups f g r.conf r.among r.number);
+      subst (λ (x : Side). IsNumberOf g x.group.tables.group.0) (sym r.new) (number_new conf groups f g r.conf r.among r.number);
 }
 
 side_opened : (g : ℕ) (c : GroupConf) → SideOpened (committed_in (map.get no_history.groups g)) (deleted_in (map.get no_history.groups g)) (new_side c)
@@ -212,6 +196,5 @@ empty_opened conf groups f = record {
       let r = sides_new groups g s is in
       subst (λ x. SideOpened (committed_in (map.get no_history.groups g)) (deleted_in (map.get no_history.groups g)) x) (sym r.new)
       (side_opened g r.conf);
-  contents = each-empty nat_cmp _;
   taken = record { dropping = each-empty nat_cmp _; given = each-empty nat_cmp _ };
 }

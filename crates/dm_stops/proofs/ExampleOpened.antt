@@ -1,9 +1,8 @@
 -- The example is opened, and one of its volumes is sparse.
-use Rattle.std.proofs.Common.{◌≡◌, ◌≢◌, ◌≤◌, ◌+◌, ℕ, Bool, true, false, cond, ◌&&◌, nat_eq, None, Some, IsSome, is_some, List, [], ◌∷◌, refl, sym, ap, subst, inl, inr, arith, ◌∙◌}
+use Rattle.std.proofs.Common.{◌≡◌, ◌≢◌, ◌≤◌, ◌+◌, ℕ, Bool, true, false, cond, None, Some, IsSome, is_some, List, [], ◌∷◌, refl, sym, ap, subst, inl, inr, arith, ◌∙◌}
 use Rattle.std.proofs.Common.{nat_cmp}
 use Rattle.std.specs.Cmp.Lexicographic.{slice_cmp}
 use Rattle.std.specs.FinMap as map
-use Rattle.std.proofs.lemmas.Bool.{eqb-true, or_cases}
 use Rattle.dm_base.specs.declared.identifier.GroupId.{GroupId}
 use Rattle.dm_base.specs.declared.identifier.Ino.{Ino}
 use Rattle.dm_rules.specs.Merge.{is_sparse, weights}
@@ -24,7 +23,7 @@ use Rattle.dm_durable.specs.declared.group.BitfileRow.{BitfileRow}
 use Rattle.dm_durable.specs.Daemon.{size_of}
 use Rattle.dm_durable.specs.DaemonJournal.{HasLength, IsGiven, MayBeDump, MayBeDumpFile, MayBeEntry, MayBeInode, MayBeState}
 use Rattle.dm_durable.specs.Dumps.{bytes_kept, dump_size, is_young}
-use Rattle.dm_durable.specs.Entries.{groups_asked, has_stored}
+use Rattle.dm_durable.specs.Entries.{groups_asked}
 use Rattle.dm_durable.specs.Inodes.{is_making, is_named, length_of}
 use Rattle.dm_durable.specs.Group.{is_on}
 use Rattle.dm_durable.specs.Tables.{Named, same_text}
@@ -35,16 +34,18 @@ use Rattle.dm_model.specs.declared.state.Reusing.{Reusing}
 use Rattle.dm_model.specs.declared.state.Reserved.{Reserved}
 use Rattle.dm_model.specs.Volumes.{has_piece_on, usage_of}
 use Rattle.dm_model.specs.declared.state.Side.{Side}
-use Rattle.dm_invariant.specs.Doubts.{AllConfigured, InGroup}
+use Rattle.dm_invariant.specs.Doubts.{AllConfigured}
 use Rattle.dm_invariant.specs.Files.{DumpedRightly, DumpsKept, HeldRightly, NamedWhole}
 use Rattle.dm_invariant.specs.Kept.{committed_in, deleted_in}
-use Rattle.dm_invariant.specs.Opened.{Fits, Opened, SideFits, SideOpened}
-use Rattle.dm_invariant.specs.Sound.{CopySound, GroupSound, Sound}
+use Rattle.dm_invariant.specs.Opened.{Fits, Opened, SideOpened}
+use Rattle.dm_invariant.specs.Sound.{GroupSound, Sound}
+use Rattle.dm_invariant.specs.Volumes.{IsNumberOf}
 use Rattle.dm_invariant.proofs.Counts.{counted_insert}
 use Rattle.dm_invariant.proofs.LettingGo.{named_by}
 use Rattle.dm_invariant.proofs.Options.{same_row}
 use Rattle.dm_stops.specs.Example.{bitfile, daemon_tables, dual, dump, dump_name, dumped, entries, entry, example, example_daemon, example_history, first_side, first_volume, first_vsn, has_bitfile, inodes, names, offline, path_of, regular, row_of, second_side, second_volume, second_vsn, stored}
-use Rattle.dm_stops.proofs.ExampleSides.{Right, copy_right, group_sound, side_fits, side_opened}
+use Rattle.dm_stops.proofs.ExampleSides.{Right, group_sound, number, side_opened}
+use Rattle.dm_stops.proofs.NothingOpen.{requests_none}
 use Rattle.sha2.specs.Sha256.{sha256}
 
 -- ---- keys that differ
@@ -269,51 +270,6 @@ side_1 = get-beside numbers _ 2 second_side 1 one_two ∙ get-here numbers map.e
 pub side_2 : map.get example.sides 2 ≡ Some second_side
 side_2 = get-here numbers _ 2 second_side
 
-copies : EachRow entries (λ b e. EachRow example.sides (λ g s. CopySound example_history.contents g s b e))
-copies = each_entry (λ b e. EachRow example.sides (λ g s. CopySound example_history.contents g s b e))
-    (each_side (λ g s. CopySound example_history.contents g s bitfile.0 entry)
-    (λ asked there. copy_right 1 first_vsn first_volume 144 None right_first)
-    (λ asked there. copy_right 2 second_vsn second_volume 176 (Some (sha256 stored)) right_second))
-
-in_first : InGroup example.sides 1 bitfile.0
-in_first = record { side = first_side; is = side_1; there = ap is_some (get-here numbers map.empty bitfile.0 (row_of first_vsn 144 None)) }
-
-in_second : InGroup example.sides 2 bitfile.0
-in_second =
-    record { side = second_side; is = side_2; there = ap is_some (get-here numbers map.empty bitfile.0 (row_of second_vsn 176 (Some (sha256 stored)))) }
-
-stored_there : (g : ℕ) → has_stored entry g ≡ true → InGroup example.sides g bitfile.0
-stored_there g had =
-    elim (or_cases (nat_eq 1 g && true) _ had) [
-      | inl one ↦ subst (λ x. InGroup example.sides x bitfile.0) (eqb-true 1 g (first_of (nat_eq 1 g) one)) in_first
-      | inr rest ↦
-          elim (or_cases (nat_eq 2 g && true) false rest) [
-            | inl two ↦ subst (λ x. InGroup example.sides x bitfile.0) (eqb-true 2 g (first_of (nat_eq 2 g) two)) in_second
-            | inr none ↦ cc
-          ]
-    ]
-  where
-    first_of : (v : Bool) → (v && true) ≡ true → v ≡ true
-    first_of true e = refl
-    first_of false e = cc
-
-example_sound : Sound example
-example_sound = record {
-  tables = tables_may;
-  held = held;
-  unnamed = each_entry (λ b e. is_named inodes b ≡ false → IsSome e.gone) (λ none. let named = still_named in cc);
-  dumps = dumps_kept;
-  requests = each-empty nat_cmp _;
-  copies = copies;
-  stored = each_entry (λ b e. e.dropping ≡ false → (g : ℕ) → has_stored e g ≡ true → InGroup example.sides g b)
-      (λ lasting g had. stored_there g had);
-  groups = each_side (GroupSound example_daemon example_history) (group_sound 1 first_vsn first_volume 144 None right_first)
-      (group_sound 2 second_vsn second_volume 176 (Some (sha256 stored)) right_second);
-  doubt = tt;
-}
-
--- ---- the configuration
-
 few_bytes : size_of daemon_tables ≤ 1000
 few_bytes =
     let size : Inode → ℕ = λ i. length_of i.contents in
@@ -328,6 +284,24 @@ few_bytes =
     let more = total-insert paths bytes_kept (map.insert map.empty (path_of 1) (KeptFile (7 ∷ []))) (path_of 2) (NamedFile 2 bitfile) in
     omega (arith, none, one, two, three, no_dumps, dumps, no_files, kept, more)
 
+example_sound : Sound example
+example_sound = record {
+  files = record {
+    state = tables_may;
+    held = held;
+    unnamed = each_entry (λ b e. is_named inodes b ≡ false → IsSome e.gone) (λ none. let named = still_named in cc);
+    contents_given = each-insert numbers (λ b bytes. IsGiven 1 2 b) map.empty bitfile.0 stored given (each-empty nat_cmp _);
+    size = few_bytes;
+  };
+  dumps = dumps_kept;
+  requests = requests_none _ _ _ _;
+  groups = each_side (GroupSound example_daemon example_history) (group_sound 1 first_vsn first_volume 144 None right_first)
+      (group_sound 2 second_vsn second_volume 176 (Some (sha256 stored)) right_second);
+  doubt = tt;
+}
+
+-- ---- the configuration
+
 configured : AllConfigured example.sides (record { 0 = 1 } ∷ record { 0 = 2 } ∷ [])
 configured g (inl same) = subst (λ (x : GroupId). IsSome (map.get example.sides x.0)) (sym same) (ap is_some side_1)
 configured g (inr (inl same)) = subst (λ (x : GroupId). IsSome (map.get example.sides x.0)) (sym same) (ap is_some side_2)
@@ -335,10 +309,9 @@ configured g (inr (inr none)) = absurd none
 
 example_fits : Fits example
 example_fits = record {
-  size = few_bytes;
   entries = each_entry (λ b e. AllConfigured example.sides (groups_asked e)) configured;
-  sides = each_side SideFits (side_fits 1 first_vsn first_volume 144 None right_first)
-      (side_fits 2 second_vsn second_volume 176 (Some (sha256 stored)) right_second);
+  sides = each_side (λ g s. IsNumberOf g s.group.tables.group.0) (number 1 first_vsn first_volume 144 None right_first)
+      (number 2 second_vsn second_volume 176 (Some (sha256 stored)) right_second);
 }
 
 -- ---- as the program starts
@@ -364,7 +337,6 @@ example_opened = record {
   sides = each_side (λ g s. SideOpened (committed_in (map.get example_history.groups g)) (deleted_in (map.get example_history.groups g)) s)
       (opened_as 1 first_side history_1 (side_opened 1 first_vsn first_volume 144 None right_first))
       (opened_as 2 second_side history_2 (side_opened 2 second_vsn second_volume 176 (Some (sha256 stored)) right_second));
-  contents = each-insert numbers (λ b bytes. IsGiven 1 2 b) map.empty bitfile.0 stored given (each-empty nat_cmp _);
   taken = record {
     dropping = each_entry (λ b e. e.dropping ≡ is_some (map.get (map.empty {X = Unit {0}} {R = nat_cmp}) b)) (sym (ap is_some (map.get-empty nat_cmp bitfile.0)));
     given = each-empty nat_cmp _;

@@ -1,5 +1,5 @@
--- The groups of the example are sound, fit their configuration, and are opened.
-use Rattle.std.proofs.Common.{◌≡◌, ◌≤◌, ◌+◌, ℕ, true, false, None, Some, Option, IsSome, is_some, List, [], ◌∷◌, option_map, refl, sym, ap, subst, inl, inr, arith, add-zero, ◌∙◌}
+-- The groups of the example are sound and opened.
+use Rattle.std.proofs.Common.{◌≡◌, ◌≤◌, ◌+◌, ℕ, true, false, None, Some, Option, IsSome, is_some, List, [], ◌∷◌, refl, sym, ap, subst, inl, inr, arith, add-zero, ◌∙◌}
 use Rattle.std.proofs.Common.{nat_cmp, Ordering}
 use Rattle.std.specs.Cmp.Lexicographic.{slice_cmp}
 use Rattle.std.specs.FinMap as map
@@ -19,22 +19,18 @@ use Rattle.dm_durable.specs.declared.group.VolumeRow.{VolumeRow}
 use Rattle.dm_durable.specs.Entries.{asks}
 use Rattle.dm_durable.specs.Limits.{IsGroupNumber, IsPast}
 use Rattle.dm_durable.specs.Volumes.{is_listed, tip_in, tip_or}
-use Rattle.dm_model.specs.declared.state.Mounted.{Mounted}
-use Rattle.dm_model.specs.declared.state.MountState.{MountState}
 use Rattle.dm_model.specs.declared.state.Side.{Side}
-use Rattle.dm_model.specs.GroupCalls.{part_of}
 use Rattle.dm_invariant.specs.Among.{IsAmong}
-use Rattle.dm_invariant.specs.Assemble.{IsSumOf, assembled_bytes, assembled_bytes_of, bytes_and, known_of, known_on}
-use Rattle.dm_invariant.specs.Catalogue.{LiesBefore}
-use Rattle.dm_invariant.specs.Mounts.{mounted_of}
-use Rattle.dm_invariant.specs.Opened.{SideFits, SideOpened}
+use Rattle.dm_invariant.specs.Assemble.{ChunkKnown, IsSumOf, SumRight, known_of, known_on}
+use Rattle.dm_invariant.specs.Catalogue.{BitfileKept, LiesBefore, StoredKept}
+use Rattle.dm_invariant.specs.Opened.{SideOpened}
 use Rattle.dm_invariant.specs.Places.{HasPlace, HasLive, Live, Reserving, Target, Doubted, Owner}
-use Rattle.dm_invariant.specs.Sound.{AskedOf, ChunkSound, CopyRight, GroupSound, VolumeBounds}
-use Rattle.dm_invariant.specs.Volumes.{ConfFits, HasImage, VolumeKept}
+use Rattle.dm_invariant.specs.Sound.{GroupSound}
+use Rattle.dm_invariant.specs.Volumes.{ConfFits, HasImage, IsNumberOf, VolumeKept}
 use Rattle.dm_invariant.proofs.LookUps.{none_in_empty}
-use Rattle.dm_invariant.proofs.Options.{same_row}
 use Rattle.dm_invariant.proofs.Texts.{same_texts, texts_equal}
 use Rattle.dm_stops.specs.Example.{bitfile, chunk_of, conf_of, entries, entry, example_daemon, example_history, has_bitfile, image_of, row_of, side_of, stored}
+use Rattle.dm_stops.proofs.NothingOpen.{mounts_none, moves_none, reservations_none}
 
 -- the one row of a table
 pub only_row : {K X : Type 0} {R : K → K → Ordering} (o : KeyOrder R) (k q : K) (x y : X) → map.get (map.insert (map.empty {X = X} {R = R}) k x) q ≡ Some y
@@ -81,38 +77,44 @@ module _ (g : ℕ) (vsn : Vsn) (v : VolumeRow) (place : ℕ) (sum : Option (List
   row_is : map.get s.group.tables.bitfiles bitfile.0 ≡ Some (row_of vsn place sum)
   row_is = get-here numbers map.empty bitfile.0 (row_of vsn place sum)
 
-  -- ---- the copy
-
   known_there : known_bytes (known_on s.images vsn.0) place 2 ≡ Some stored
   known_there =
       ap (λ o. known_bytes (known_of o) place 2) image_is
       ∙ ap (λ p. known_bytes (known_with_write place stored map.empty) p 2) (sym (add-zero place))
       ∙ known_bytes-written place stored map.empty 0 2 (omega arith)
 
-  pub copy_is : assembled_bytes s bitfile.0 ≡ Some stored
-  copy_is = ap (assembled_bytes_of s.images) row_is ∙ ap (λ o. bytes_and o (Some [])) known_there
-
-  pub copy_right : CopyRight example_history.contents s bitfile.0 entry
-  copy_right = record {
-    bytes = stored;
-    copy = copy_is;
-    content = get-here numbers map.empty bitfile.0 stored;
-    len = refl;
-  }
-
   -- ---- the chunk
 
   lies : LiesBefore s.group.tables.volumes c
   lies = record { volume = v; is = volume_is; usable = r.held; behind = r.behind; within = r.within; sum = r.has }
 
-  chunk_sound : (d : Chunk) → IsAmong d (c ∷ []) → ChunkSound example_history.contents s bitfile.0 d
-  chunk_sound d (inl same) = subst (λ x. ChunkSound example_history.contents s bitfile.0 x) (sym same) (record {
-    lies = lies;
-    sum = λ bytes is.
-        let one : stored ≡ bytes = same_row (map.get example_history.contents bitfile.0) stored bytes (get-here numbers map.empty bitfile.0 stored) is in
-        subst (λ (x : List ℕ). IsSumOf (part_of x 0 2) sum) one r.right;
-  })
-  chunk_sound d (inr none) = absurd none
+  each_chunk : (P : Chunk → Type 0) → P c → (d : Chunk) → IsAmong d (c ∷ []) → P d
+  each_chunk P here d (inl same) = subst P (sym same) here
+  each_chunk P here d (inr none) = absurd none
+
+  -- ---- the bitfile
+
+  file : BitfileKept g entries example_history.contents s.group.tables.volumes s.images bitfile.0 (row_of vsn place sum)
+  file = record {
+    of = record {
+      entry = entry;
+      is = get-here numbers map.empty bitfile.0 entry;
+      asked = r.asked;
+      bytes = stored;
+      content = get-here numbers map.empty bitfile.0 stored;
+      sized = refl;
+    };
+    len = refl;
+    joins = (refl, omega arith, refl);
+    lies = each_chunk (LiesBefore s.group.tables.volumes) lies;
+    known = each_chunk (ChunkKnown s.images stored) known_there;
+    sums = each_chunk (SumRight stored) r.right;
+  }
+
+  stored_there : StoredKept g entries s.group.tables.bitfiles
+  stored_there b e is lasting had =
+      let here = (only_row numbers bitfile.0 b entry e is).0 in
+      subst (λ (q : ℕ). IsSome (map.get s.group.tables.bitfiles q)) (sym here) (ap is_some row_is)
 
   -- its places are its own
   live_is : (b offset : ℕ) (at : List ℕ) (p : ℕ) → HasLive s.group.tables.bitfiles b offset at p → (b ≡ bitfile.0) × (offset ≡ 0)
@@ -130,47 +132,7 @@ module _ (g : ℕ) (vsn : Vsn) (v : VolumeRow) (place : ℕ) (sum : Option (List
   owner_is (Target job) at p has = absurd (none_in_empty nat_cmp map.empty job has.moving refl has.is)
   owner_is (Doubted zone) at p has = absurd has.among
 
-  -- ---- the group
-
-  asked_of : AskedOf entries g bitfile.0
-  asked_of = record { entry = entry; is = get-here numbers map.empty bitfile.0 entry; asked = r.asked }
-
-  bounds : VolumeBounds s.group vsn.0 v
-  bounds =
-      let tip = at_end in
-      let behind = r.behind in
-      let within = r.within in
-      let end = r.end in
-      let size = r.size in
-      record { label = omega (arith, behind, within); end = omega (arith, tip); tip = omega (arith, tip, end, size) }
-
-  few : map.len (map.empty {X = Mounted} {R = nat_cmp}) ≤ 2
-  few = let none = map.len-empty nat_cmp Mounted in omega (arith, none)
-
-  nothing_mounted : (m : ℕ) → map.get (map.empty {X = Mounted} {R = nat_cmp}) m ≡ option_map mounted_of (map.get (map.empty {X = MountState} {R = nat_cmp}) m)
-  nothing_mounted m = map.get-empty {X = Mounted} nat_cmp m ∙ sym (ap (option_map mounted_of) (map.get-empty {X = MountState} nat_cmp m))
-
-  pub group_sound : GroupSound example_daemon example_history g s
-  group_sound = record {
-    asked = each-insert numbers (λ b row. AskedOf entries g b) map.empty bitfile.0 (row_of vsn place sum) asked_of (each-empty nat_cmp _);
-    slots = λ p q x y is other same.
-        (only_row paths vsn.0 p v x is).0 ∙ sym (only_row paths vsn.0 q v y other).0;
-    bounds = each-insert paths (VolumeBounds s.group) map.empty vsn.0 v bounds (each-empty (slice_cmp nat_cmp) _);
-    chunks = each-insert numbers (λ b row. (d : Chunk) → IsAmong d row.chunks → ChunkSound example_history.contents s b d) map.empty bitfile.0
-        (row_of vsn place sum) chunk_sound (each-empty nat_cmp _);
-    zones = each-empty nat_cmp _;
-    targets = each-empty nat_cmp _;
-    apart = λ o p at q one two. owner_is o at q one ∙ sym (owner_is p at q two);
-    puts = each-empty nat_cmp _;
-    held = each-insert paths (λ q x. IsPast 10 x.held) map.empty vsn.0 v (subst (IsPast 10) (sym r.held) tt) (each-empty (slice_cmp nat_cmp) _);
-    mounted = nothing_mounted;
-    epochs = each-empty nat_cmp _;
-    mounts = λ m n x y is other same. absurd (none_in_empty nat_cmp map.empty m x refl is);
-    drives = few;
-    doubt = tt;
-  }
-
-  -- ---- the configuration
+  -- ---- the volume
 
   conf_fits : ConfFits (conf_of g vsn v.version)
   conf_fits = record {
@@ -189,6 +151,11 @@ module _ (g : ℕ) (vsn : Vsn) (v : VolumeRow) (place : ℕ) (sum : Option (List
   volume_kept : VolumeKept (conf_of g vsn v.version) map.empty 10 vsn.0 v
   volume_kept =
       let slot = r.slot in
+      let tip = at_end in
+      let behind = r.behind in
+      let within = r.within in
+      let end = r.end in
+      let size = r.size in
       record {
         configured = or_left _ false (same_texts vsn.0 vsn.0 refl);
         size = r.size;
@@ -196,18 +163,35 @@ module _ (g : ℕ) (vsn : Vsn) (v : VolumeRow) (place : ℕ) (sum : Option (List
         version = r.version;
         epoch = r.epoch;
         last = r.last;
-        label = bounds.label;
-        end = bounds.end;
-        tip = bounds.tip;
+        label = omega (arith, behind, within);
+        end = omega (arith, tip);
+        tip = omega (arith, tip, end, size);
         freed = subst (IsPast 10) (sym r.held) tt;
       }
 
-  pub side_fits : SideFits g s
-  side_fits = record {
-    number = record { same = refl; fits = r.number };
-    conf = conf_fits;
-    volumes = each-insert paths (VolumeKept (conf_of g vsn v.version) map.empty 10) map.empty vsn.0 v volume_kept (each-empty (slice_cmp nat_cmp) _);
+  -- ---- the group
+
+  pub group_sound : GroupSound example_daemon example_history g s
+  group_sound = record {
+    bitfiles = each-insert numbers (BitfileKept g entries example_history.contents s.group.tables.volumes s.images) map.empty bitfile.0
+        (row_of vsn place sum) file (each-empty nat_cmp _);
+    stored = stored_there;
+    volumes = record {
+      fits = conf_fits;
+      volume = each-insert paths (VolumeKept (conf_of g vsn v.version) map.empty 10) map.empty vsn.0 v volume_kept (each-empty (slice_cmp nat_cmp) _);
+      slots = λ p q x y is other same.
+          (only_row paths vsn.0 p v x is).0 ∙ sym (only_row paths vsn.0 q v y other).0;
+    };
+    mounts = mounts_none _ _ _;
+    reservations = reservations_none _ _ _ _ _ _ _ _ _;
+    moves = moves_none _ _ _ _ _ _;
+    reuses = each-empty nat_cmp _;
+    places = λ o p at q one two. owner_is o at q one ∙ sym (owner_is p at q two);
+    doubt = tt;
   }
+
+  pub number : IsNumberOf g s.group.tables.group.0
+  number = record { same = refl; fits = r.number }
 
   -- ---- as the program starts
 
