@@ -1,0 +1,6 @@
+use Rattle.std.proofs.Common.{◌≡◌, drop}
+use Rattle.dm_durable.specs.Group.{with_ends_behind}
+use Rattle.dm_durable_steps.proofs.group.raise_ends.Given as goal
+
+abbrev pub invariant-loop-chunk : goal.invariant-loop-chunk
+invariant-loop-chunk l = with_ends_behind (drop l.chunk-index l.chunks) l.volumes ≡ with_ends_behind l.chunks l.initial.volumes
