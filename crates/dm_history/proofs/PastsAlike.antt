@@ -33,7 +33,7 @@ differ : {P : Type 0} (a b : ℕ × Entry) → a ≡ b → a.0 < b.0 → P
 differ a b is less = let n : a.0 ≡ b.0 = ap (λ (t : ℕ × Entry). t.0) is in absurd (omega arith)
 
 -- how far two pasts were gone through
-record Walk (begun : Begun) (low : ℕ) (dx rx dy ry : List (ℕ × Entry)) : Type 0 where
+pub record Walk (begun : Begun) (low : ℕ) (dx rx dy ry : List (ℕ × Entry)) : Type 0 where
   pub part : IsPart history (dx ++ rx) (dy ++ ry)
   pub legal : Legal history begun (dx ++ rx)
   pub more : Legal history begun (dy ++ ry)
@@ -44,11 +44,11 @@ record Walk (begun : Begun) (low : ℕ) (dx rx dy ry : List (ℕ × Entry)) : Ty
 
 module _ (begun : Begun) (opened : Opened begun.opened) where
   -- what the entry needed of what was seen before it
-  needed : (done rest : List (ℕ × Entry)) (a : ℕ × Entry) → Rises 0 (done ++ a ∷ rest) → Legal history begun (done ++ a ∷ rest) → Needed begun done a.1
+  pub needed : (done rest : List (ℕ × Entry)) (a : ℕ × Entry) → Rises 0 (done ++ a ∷ rest) → Legal history begun (done ++ a ∷ rest) → Needed begun done a.1
   needed done rest a rises legal = (fits_run history begun a.0 done rest a.1 rises legal).needed opened
 
   -- an entry that only the larger past has
-  apart : (low : ℕ) (dx rx dy ry : List (ℕ × Entry)) (a : ℕ × Entry) → Walk begun low dx rx dy (a ∷ ry) → Agrees begun dx dy → Agrees begun dx (dy ++ a ∷ [])
+  pub apart : (low : ℕ) (dx rx dy ry : List (ℕ × Entry)) (a : ℕ × Entry) → Walk begun low dx rx dy (a ∷ ry) → Agrees begun dx dy → Agrees begun dx (dy ++ a ∷ [])
   apart low dx rx dy ry a walk agrees z rooted all =
       let j = state_seen begun.opened dy in
       let need = needed dy ry a walk.part.ordered walk.more in
@@ -88,7 +88,7 @@ module _ (begun : Begun) (opened : Opened begun.opened) where
       let less : b.0 < a.0 = omega arith in
       seen_before low dx rx dy ry a b walk h (walk.part.chained y a b (in_right a dx (a ∷ rx) (inl refl)) (in_left b dy (a ∷ ry) h) less about k))
 
-  told_alike : (low : ℕ) (dx rx dy ry : List (ℕ × Entry)) (a : ℕ × Entry) → Walk begun low dx (a ∷ rx) dy (a ∷ ry) → Agrees begun dx dy
+  pub told_alike : (low : ℕ) (dx rx dy ry : List (ℕ × Entry)) (a : ℕ × Entry) → Walk begun low dx (a ∷ rx) dy (a ∷ ry) → Agrees begun dx dy
       → (y : Name) → In y (home_of a.1.event ∷ names_of (state_seen begun.opened dx) a.1.worker a.1.event)
       → Alike y (state_seen begun.opened dx) (state_seen begun.opened dy)
   told_alike low dx rx dy ry a walk agrees y (inl home) =
@@ -137,7 +137,7 @@ module _ (begun : Begun) (opened : Opened begun.opened) where
       need.taken.taken more.taken.taken (told_alike low dx rx dy ry a walk agrees) made
 
   -- an entry that both have
-  both : (low : ℕ) (dx rx dy ry : List (ℕ × Entry)) (a : ℕ × Entry) → Walk begun low dx (a ∷ rx) dy (a ∷ ry) → Agrees begun dx dy
+  pub both : (low : ℕ) (dx rx dy ry : List (ℕ × Entry)) (a : ℕ × Entry) → Walk begun low dx (a ∷ rx) dy (a ∷ ry) → Agrees begun dx dy
       → Agrees begun (dx ++ a ∷ []) (dy ++ a ∷ [])
   both low dx rx dy ry a walk agrees z rooted all =
       let after = both_after low dx rx dy ry a z walk agrees (had_all low dx rx dy ry a z walk all) (rooted_more dx a z rooted) in
@@ -186,44 +186,51 @@ module _ (begun : Begun) (opened : Opened begun.opened) where
         left = λ b h. ⊎_elim (λ is. differ a b (sym is) (rises_behind 0 dx rx a b walk.part.rises h)) (λ k. k) (walk.left b (inr h));
       }
 
-  go_on : (low : ℕ) (dx rx dy ry : List (ℕ × Entry)) → Walk begun low dx rx dy ry → Agrees begun dx dy → Agrees begun (dx ++ rx) (dy ++ ry)
-  go_on low dx [] dy [] walk agrees = subst (λ l. Agrees begun l (dy ++ [])) (sym (append-nil dx)) (subst (λ l. Agrees begun dx l) (sym (append-nil dy)) agrees)
-  go_on low dx (c ∷ rx) dy [] walk agrees = absurd (walk.left c (inl refl))
-  go_on low dx [] dy (a ∷ ry) walk agrees =
-      subst (λ l. Agrees begun (dx ++ []) l) (joined_on dy ry a)
-      (go_on (a.0 + 1) dx [] (dy ++ a ∷ []) ry (walk_apart low dx [] dy ry a walk (λ b h. absurd h)) (apart low dx [] dy ry a walk agrees))
-  go_on low dx (c ∷ rx) dy (a ∷ ry) walk agrees =
+  -- what an entry that only the larger past has keeps, and what one that both have keeps, holds of both pasts whole
+  pub go_on : (P : List (ℕ × Entry) → List (ℕ × Entry) → Type 0)
+      → ((low : ℕ) (dx rx dy ry : List (ℕ × Entry)) (a : ℕ × Entry) → Walk begun low dx rx dy (a ∷ ry) → P dx dy → P dx (dy ++ a ∷ []))
+      → ((low : ℕ) (dx rx dy ry : List (ℕ × Entry)) (a : ℕ × Entry) → Walk begun low dx (a ∷ rx) dy (a ∷ ry) → P dx dy → P (dx ++ a ∷ []) (dy ++ a ∷ []))
+      → (low : ℕ) (dx rx dy ry : List (ℕ × Entry)) → Walk begun low dx rx dy ry → P dx dy → P (dx ++ rx) (dy ++ ry)
+  go_on P lone pair low dx [] dy [] walk holds = subst (λ l. P l (dy ++ [])) (sym (append-nil dx)) (subst (λ l. P dx l) (sym (append-nil dy)) holds)
+  go_on P lone pair low dx (c ∷ rx) dy [] walk holds = absurd (walk.left c (inl refl))
+  go_on P lone pair low dx [] dy (a ∷ ry) walk holds =
+      subst (λ l. P (dx ++ []) l) (joined_on dy ry a)
+      (go_on P lone pair (a.0 + 1) dx [] (dy ++ a ∷ []) ry (walk_apart low dx [] dy ry a walk (λ b h. absurd h)) (lone low dx [] dy ry a walk holds))
+  go_on P lone pair low dx (c ∷ rx) dy (a ∷ ry) walk holds =
       ⊎_elim
       (λ same.
       let W : ℕ × Entry → Type 0 = λ t. Walk begun low dx (t ∷ rx) dy (a ∷ ry) in
       let walk' = subst W same walk in
-      let end = go_on (a.0 + 1) (dx ++ a ∷ []) rx (dy ++ a ∷ []) ry (walk_both low dx rx dy ry a walk') (both low dx rx dy ry a walk' agrees) in
-      let here = subst (λ l. Agrees begun l (dy ++ a ∷ ry)) (joined_on dx rx a)
-      (subst (λ l. Agrees begun ((dx ++ a ∷ []) ++ rx) l) (joined_on dy ry a) end) in
-      subst (λ t. Agrees begun (dx ++ t ∷ rx) (dy ++ a ∷ ry)) (sym same) here)
+      let end = go_on P lone pair (a.0 + 1) (dx ++ a ∷ []) rx (dy ++ a ∷ []) ry (walk_both low dx rx dy ry a walk') (pair low dx rx dy ry a walk' holds) in
+      let here = subst (λ l. P l (dy ++ a ∷ ry)) (joined_on dx rx a)
+      (subst (λ l. P ((dx ++ a ∷ []) ++ rx) l) (joined_on dy ry a) end) in
+      subst (λ t. P (dx ++ t ∷ rx) (dy ++ a ∷ ry)) (sym same) here)
       (λ later.
       let less : a.0 + 1 ≤ c.0 = rises_low (a.0 + 1) ry walk.rise.1 c later in
       let left : (b : ℕ × Entry) → In b (c ∷ rx) → In b ry = λ b h.
       ⊎_elim
       (λ is. let late : c.0 ≤ b.0 = rises_after 0 dx rx c walk.part.rises b h in let more : a.0 < b.0 = omega arith in differ a b (sym is) more)
       (λ k. k) (walk.left b h) in
-      subst (λ l. Agrees begun (dx ++ c ∷ rx) l) (joined_on dy ry a)
-      (go_on (a.0 + 1) dx (c ∷ rx) (dy ++ a ∷ []) ry (walk_apart low dx (c ∷ rx) dy ry a walk left) (apart low dx (c ∷ rx) dy ry a walk agrees)))
+      subst (λ l. P (dx ++ c ∷ rx) l) (joined_on dy ry a)
+      (go_on P lone pair (a.0 + 1) dx (c ∷ rx) (dy ++ a ∷ []) ry (walk_apart low dx (c ∷ rx) dy ry a walk left)
+      (lone low dx (c ∷ rx) dy ry a walk holds)))
       (walk.left c (inl refl))
+
+  -- where two pasts begin
+  pub walk_first : (xs ys : List (ℕ × Entry)) → IsPart history xs ys → Legal history begun xs → Legal history begun ys → Walk begun 0 [] xs [] ys
+  walk_first xs ys part legal more = record {
+    part = part;
+    legal = legal;
+    more = more;
+    under = λ b h. absurd h;
+    rise = part.ordered;
+    seen = λ b h. absurd h;
+    left = part.within;
+  }
 
   pub pasts_alike : (xs ys : List (ℕ × Entry)) → IsPart history xs ys → Legal history begun xs → Legal history begun ys → Agrees begun xs ys
   pasts_alike xs ys part legal more =
-      go_on 0 [] xs [] ys
-      (record {
-        part = part;
-        legal = legal;
-        more = more;
-        under = λ b h. absurd h;
-        rise = part.ordered;
-        seen = λ b h. absurd h;
-        left = part.within;
-      })
-      (λ z rooted all. alike_self z begun.opened)
+      go_on (Agrees begun) apart both 0 [] xs [] ys (walk_first xs ys part legal more) (λ z rooted all. alike_self z begun.opened)
 
   -- where the chain of a name is the same, each past has all entries about it
   pub chains_alike : (xs ys : List (ℕ × Entry)) (x : Name) → IsPart history xs ys → Legal history begun xs → Legal history begun ys

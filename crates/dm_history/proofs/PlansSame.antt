@@ -29,11 +29,11 @@ use Rattle.dm_history.specs.Alike.{ForgetsOnly, SameGroups, image_of, library_of
 use Rattle.dm_history.proofs.PartsGo.{AllAlike, Library}
 
 -- a group's plan is of its library server
-abbrev plan_by : GroupId → GroupCall → Library → Plan
+abbrev pub plan_by : GroupId → GroupCall → Library → Plan
 plan_by g c None = no_group g
 plan_by g c (Some l) = group_plan g l.0 c
 
-plan_is : (g : GroupId) (c : GroupCall) (o : Option SideState) → side_plan g c o ≡ plan_by g c (library_of o)
+pub plan_is : (g : GroupId) (c : GroupCall) (o : Option SideState) → side_plan g c o ≡ plan_by g c (library_of o)
 plan_is g c None = refl
 plan_is g c (Some s) = refl
 
