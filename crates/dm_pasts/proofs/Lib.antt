@@ -1,0 +1,5 @@
+pub mod GuardsGrow
+pub mod EventsGrow
+pub mod DoneGrows
+pub mod NeedsMet
+pub mod PulledLawful
