@@ -508,7 +508,7 @@ module _ (j : Joint) (k : CopiesAreAsked j) (w : ℕ) where
 pub opened_asks : (j : Joint) → Opened j → CopiesAreAsked j
 opened_asks j opened = record {
   numbers = each_of_empty nat_cmp _ j.daemon.requests opened.requests;
-  contents = opened.contents;
+  contents = opened.sound.files.contents_given;
   copies = λ g s is. each_of_empty nat_cmp _ s.copies (opened.sides g s is).copies;
   doubt = subst (λ o. DoubtSpares j.daemon.tables j.daemon.requests o) (sym opened.doubt) tt;
 }
