@@ -1,0 +1,5 @@
+pub mod Order
+pub mod Heap
+pub mod Found
+pub mod First
+pub mod Queued
