@@ -1,0 +1,6 @@
+mod Texts
+mod Summing
+mod Placing
+mod Loops
+mod Moving
+mod Weighing

@@ -1,0 +1,10 @@
+use Rattle.std.proofs.Common.{sym, subst}
+use Rattle.dm_catalogue.specs.Sums.{IsWhole, Summed}
+use Rattle.dm_tables.specs.Rows.{EachRow}
+use Rattle.dm_catalogue.proofs.catalogue.Catalogue.reserve.Goals as goal
+
+pub invariant_of-self : goal.invariant_of-self
+invariant_of-self c = record {
+  whole = subst (λ m. EachRow m (λ b r. IsWhole r)) (sym c.reserve.ensures.rows) c.args.self.now.whole;
+  summed = subst (Summed c.args.self.now.homes.rows) (sym c.reserve.ensures.rows) c.args.self.now.summed;
+}
