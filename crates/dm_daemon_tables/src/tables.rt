@@ -4,7 +4,7 @@ ghost use Rattle.std.specs.Prelude.{◌≡◌, ◌+◌, ◌<◌, ◌^◌, option
 ghost use Rattle.std.specs.Option.{option_copied};
 ghost use Rattle.std.specs.FinMap as map;
 ghost use Rattle.dm_durable.specs.Daemon.{empty_tables, size_of, number_or as number_or_of};
-ghost use Rattle.dm_durable.specs.Inodes.{bitfile_in as bitfile_in_of, is_named as is_named_of};
+ghost use Rattle.dm_durable.specs.Inodes.{bitfile_in as bitfile_in_of, has_making as has_making_of, is_named as is_named_of};
 ghost use Rattle.dm_tables.specs.Rows.{row_after};
 ghost use Rattle.dm_daemon_tables.specs.Tables.{state_of};
 
@@ -79,6 +79,14 @@ impl Tables {
         ensures { result ≡ (state_of self.now).time }
     {
         self.time
+    }
+
+    /// The daemon's time is this, without a step: what a load does where a journal begins, and where it goes on as one of
+    /// another version.
+    pub fn set_time(&mut self, time: Secs)
+        ensures { state_of self.new ≡ record (state_of self.old) { time = time } }
+    {
+        self.time = time;
     }
 
     /// The number of the last change.
@@ -184,6 +192,13 @@ impl Tables {
         ensures { result ≡ is_named_of (state_of self.now).inodes bfid.0 }
     {
         self.inodes.is_named(bfid)
+    }
+
+    /// Whether some put has not ended. It goes over the inodes, as a restart does.
+    pub fn has_making(&self) -> bool
+        ensures { result ≡ has_making_of (state_of self.now).inodes }
+    {
+        self.inodes.has_making()
     }
 
     /// The bytes of all files and those that dumps keep: their sum, where it is less than 2 to the 64th, as in each run

@@ -1,3 +1,4 @@
 pub mod Namings
 pub mod Sizes
 pub mod Entries
+pub mod Seeking

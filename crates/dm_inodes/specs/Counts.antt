@@ -3,7 +3,7 @@ use Rattle.std.specs.Prelude.{◌≡◌, ℕ, ◌+◌, ◌-◌, Bool, true, fals
 use Rattle.std.specs.FinMap as map
 use Rattle.dm_durable.specs.declared.daemon.Inode.{Inode}
 use Rattle.dm_durable.specs.Tables.{Numbered}
-use Rattle.dm_durable.specs.Inodes.{bitfile_of, bitfile_made, is_bitfile, with_contents, as_ended}
+use Rattle.dm_durable.specs.Inodes.{bitfile_of, bitfile_made, is_bitfile, is_making, with_contents, as_ended}
 use Rattle.dm_rules.specs.Numbers.{as_word}
 use Rattle.dm_tables.specs.Rows.{adjust}
 use Rattle.dm_tables.specs.Totals.{total}
@@ -65,3 +65,8 @@ made_at (Some e) = bitfile_made e.1.contents
 abbrev pub ended_at : Numbered Inode → Option (ℕ × Inode) → Numbered Inode
 ended_at inodes None = inodes
 ended_at inodes (Some e) = adjust inodes e.0 (with_contents (as_ended false))
+
+-- whether a put of an entry's inode has not ended, of an entry of the table
+abbrev pub is_making_row : Option (ℕ × Inode) → Bool
+is_making_row None = false
+is_making_row (Some e) = is_making e.1.contents

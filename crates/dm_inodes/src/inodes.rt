@@ -5,9 +5,9 @@ ghost use Rattle.std.specs.Option.{option_copied};
 ghost use Rattle.std.specs.FinMap as map;
 ghost use Rattle.dm_tables.specs.Rows.{adjust, map_values};
 ghost use Rattle.dm_rows.specs.Places.{row_of, with_key};
-ghost use Rattle.dm_durable.specs.Inodes.{bitfile_of, bitfile_in, is_named as is_named_of, with_contents, as_ended as as_ended_of, as_making as as_making_of, as_offline as as_offline_of, as_recalled as as_recalled_of};
+ghost use Rattle.dm_durable.specs.Inodes.{bitfile_of, bitfile_in, has_making as has_making_of, is_named as is_named_of, with_contents, as_ended as as_ended_of, as_making as as_making_of, as_offline as as_offline_of, as_recalled as as_recalled_of};
 ghost use Rattle.dm_durable.specs.Daemon.{size_of_files};
-ghost use Rattle.dm_inodes.specs.Counts.{Counted, HasCount, KeepsCounts, let_go_by, made_at, ended_at};
+ghost use Rattle.dm_inodes.specs.Counts.{Counted, HasCount, KeepsCounts, let_go_by, made_at, ended_at, is_making_row};
 
 use crate::contents::{bitfile, bitfile_made, length};
 use crate::{contents, counts};
@@ -68,6 +68,28 @@ impl Inodes {
     {
         match self.counts.get(bfid.0) {
             Some(count) => *count > 0,
+            None => false,
+        }
+    }
+
+    /// Whether some put has not ended. It goes over the inodes.
+    pub fn has_making(&self) -> bool
+        ensures { result ≡ has_making_of self.now.rows.rows }
+    {
+        for at in 0..self.rows.len() {
+            if self.is_making_at(at) {
+                return true;
+            }
+        }
+        false
+    }
+
+    // Whether a put of the inode at this place has not ended.
+    fn is_making_at(&self, at: usize) -> bool
+        ensures { result ≡ is_making_row (slice_get (map.entries self.now.rows.rows) at) }
+    {
+        match self.rows.entry(at) {
+            Some((_, inode)) => bitfile_made(&inode.contents).is_some(),
             None => false,
         }
     }
