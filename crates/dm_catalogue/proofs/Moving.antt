@@ -7,7 +7,7 @@ use Rattle.dm_base.specs.declared.volume.Chunk.{Chunk}
 use Rattle.dm_durable.specs.declared.group.BitfileRow.{BitfileRow}
 use Rattle.dm_durable.specs.Group.{chunk_at, chunk_or_moved, is_on, with_chunk}
 use Rattle.dm_durable.specs.GroupConditions.{Joins}
-use Rattle.dm_durable.specs.Tables.{Named, Numbered}
+use Rattle.dm_durable.specs.Tables.{ByName, ByNumber}
 use Rattle.dm_tables.specs.Rows.{EachRow, adjust}
 use Rattle.dm_tables.specs.Totals.{total}
 use Rattle.dm_tables.proofs.Adjusted.{adjust-there, adjust-none, each-adjust-known}
@@ -93,7 +93,7 @@ one_few m less vsn to long =
     let few : m.of to ≤ to.len = less to long in
     elim (is_on vsn to) as (λ t. cond t (m.of to + 0) 0 ≤ to.len) [ true ↦ omega arith | false ↦ omega arith ]
 
-holds_moved : (m : Measure) → IsSmall m → (homes : Named Live) (bitfiles : Numbered BitfileRow) (b : ℕ) (r : BitfileRow) (at : ℕ) (c to : Chunk)
+holds_moved : (m : Measure) → IsSmall m → (homes : ByName Live) (bitfiles : ByNumber BitfileRow) (b : ℕ) (r : BitfileRow) (at : ℕ) (c to : Chunk)
     → EachRow bitfiles (λ b r. IsWhole r) → len bitfiles < 2 ^ 63
     → get bitfiles b ≡ Some r → slice_get r.chunks at ≡ Some c → to.len ≡ c.len → Known homes (to ∷ []) → Holds m homes bitfiles
     → Holds m (with_all (to ∷ []) (without_all (c ∷ []) homes)) (adjust bitfiles b (with_chunk_at at to))
@@ -128,13 +128,13 @@ holds_moved m less homes bitfiles b r at c to whole few is there same known hold
 
 -- ---- what the table keeps
 
-pub whole_moved : (bitfiles after : Numbered BitfileRow) (b : ℕ) (r : BitfileRow) (at : ℕ) (c to : Chunk) → EachRow bitfiles (λ b r. IsWhole r) → get bitfiles b ≡ Some r
+pub whole_moved : (bitfiles after : ByNumber BitfileRow) (b : ℕ) (r : BitfileRow) (at : ℕ) (c to : Chunk) → EachRow bitfiles (λ b r. IsWhole r) → get bitfiles b ≡ Some r
     → slice_get r.chunks at ≡ Some c → to.offset ≡ c.offset → to.len ≡ c.len → after ≡ adjust bitfiles b (with_chunk_at at to) → EachRow after (λ b r. IsWhole r)
 whole_moved bitfiles after b r at c to whole is there begins long changed =
     subst (λ m. EachRow m (λ b r. IsWhole r)) (sym changed)
     (each-adjust-known numbers (λ b r. IsWhole r) bitfiles b (with_chunk_at at to) r is (put_whole r at c to (whole b r is) there begins long) whole)
 
-pub summed_moved : (homes fewer more : Named Live) (bitfiles after : Numbered BitfileRow) (b : ℕ) (r : BitfileRow) (at : ℕ) (c to : Chunk)
+pub summed_moved : (homes fewer more : ByName Live) (bitfiles after : ByNumber BitfileRow) (b : ℕ) (r : BitfileRow) (at : ℕ) (c to : Chunk)
     → EachRow bitfiles (λ b r. IsWhole r) → len bitfiles < 2 ^ 63 → get bitfiles b ≡ Some r → slice_get r.chunks at ≡ Some c → to.len ≡ c.len → Known homes (to ∷ [])
     → fewer ≡ without_all (c ∷ []) homes → more ≡ with_all (to ∷ []) fewer → after ≡ adjust bitfiles b (with_chunk_at at to) → Summed homes bitfiles → Summed more after
 summed_moved homes fewer more bitfiles after b r at c to whole few is there same known gone came changed s =
@@ -145,13 +145,13 @@ summed_moved homes fewer more bitfiles after b r at c to whole few is there same
     (holds_moved how_long long_small homes bitfiles b r at c to whole few is there same known (holds_long homes bitfiles s))))
 
 -- the bitfiles are those of the definition
-pub rows_moved : (bitfiles after : Numbered BitfileRow) (b : ℕ) (r : BitfileRow) (at : ℕ) (c to : Chunk) → EachRow bitfiles (λ b r. IsWhole r) → get bitfiles b ≡ Some r
+pub rows_moved : (bitfiles after : ByNumber BitfileRow) (b : ℕ) (r : BitfileRow) (at : ℕ) (c to : Chunk) → EachRow bitfiles (λ b r. IsWhole r) → get bitfiles b ≡ Some r
     → slice_get r.chunks at ≡ Some c → c.offset ≡ to.offset → after ≡ adjust bitfiles b (with_chunk_at at to) → after ≡ adjust bitfiles b (with_chunk to)
 rows_moved bitfiles after b r at c to whole is there begins changed =
     let same : with_chunk_at at to r ≡ with_chunk to r = ap (λ cs. record r { chunks = cs }) (put_there to r.chunks r.len at c (whole b r is).joins there begins) in
     changed ∙ adjust-there bitfiles b (with_chunk_at at to) r is ∙ ap (insert bitfiles b) same ∙ sym (adjust-there bitfiles b (with_chunk to) r is)
 
-pub none_changed : (bitfiles : Numbered BitfileRow) (b : ℕ) (to : Chunk) → chunk_in to.offset (get bitfiles b) ≡ None → bitfiles ≡ adjust bitfiles b (with_chunk to)
+pub none_changed : (bitfiles : ByNumber BitfileRow) (b : ℕ) (to : Chunk) → chunk_in to.offset (get bitfiles b) ≡ None → bitfiles ≡ adjust bitfiles b (with_chunk to)
 none_changed bitfiles b to none = of (get bitfiles b) refl none
   where
     of : (o : Option BitfileRow) → get bitfiles b ≡ o → chunk_in to.offset o ≡ None → bitfiles ≡ adjust bitfiles b (with_chunk to)

@@ -7,7 +7,7 @@ use Rattle.dm_base.specs.declared.volume.Chunk.{Chunk}
 use Rattle.dm_durable.specs.declared.group.BitfileRow.{BitfileRow}
 use Rattle.dm_durable.specs.Group.{has_chunk_on, is_on}
 use Rattle.dm_durable.specs.GroupConditions.{Joins}
-use Rattle.dm_durable.specs.Tables.{Named, Numbered}
+use Rattle.dm_durable.specs.Tables.{ByName, ByNumber}
 use Rattle.dm_durable.specs.Volumes.{live_in, live_on}
 use Rattle.dm_tables.specs.Rows.{EachRow, adjust}
 use Rattle.dm_tables.specs.Totals.{sum_of, total, weight_at}
@@ -43,10 +43,10 @@ abbrev pub sum_in : Measure → List ℕ → List Chunk → ℕ
 sum_in m vsn [] = 0
 sum_in m vsn (c ∷ cs) = cond (is_on vsn c) (m.of c + sum_in m vsn cs) (sum_in m vsn cs)
 
-abbrev pub sum_on : Measure → Numbered BitfileRow → List ℕ → ℕ
+abbrev pub sum_on : Measure → ByNumber BitfileRow → List ℕ → ℕ
 sum_on m bitfiles vsn = total (λ r. sum_in m vsn r.chunks) bitfiles
 
-abbrev pub Holds : Measure → Named Live → Numbered BitfileRow → Type 0
+abbrev pub Holds : Measure → ByName Live → ByNumber BitfileRow → Type 0
 Holds m homes bitfiles = (vsn : List ℕ) → kept_at m (get homes vsn) ≡ sum_on m bitfiles vsn
 
 -- ---- one chunk
@@ -59,7 +59,7 @@ kept_fewer : (m : Measure) (c : Chunk) (o : Option Live) → kept_at m (option_m
 kept_fewer m c None = omega arith
 kept_fewer m c (Some l) = m.fewer c l
 
-known_adjust : (f : Live → Live) (k : List ℕ) (homes : Named Live) → KeepsHomes homes (adjust homes k f)
+known_adjust : (f : Live → Live) (k : List ℕ) (homes : ByName Live) → KeepsHomes homes (adjust homes k f)
 known_adjust f k homes vsn there =
     elim (same_or paths k vsn) [
       | inl same ↦ subst (λ x. IsSome (get (adjust homes k f) x)) (sym same) (subst IsSome (sym (adjusted-here paths homes k f)) (mapped (get homes k) (subst (λ x. IsSome (get homes x)) same there)))
@@ -70,11 +70,11 @@ known_adjust f k homes vsn there =
     mapped None h = cc
     mapped (Some l) h = cc
 
-pub known_kept : (old new : Named Live) (cs : List Chunk) → KeepsHomes old new → Known old cs → Known new cs
+pub known_kept : (old new : ByName Live) (cs : List Chunk) → KeepsHomes old new → Known old cs → Known new cs
 known_kept old new [] keeps known = known
 known_kept old new (c ∷ cs) keeps known = (keeps c.vsn.0 known.0, known_kept old new cs keeps known.1)
 
-one_more : (m : Measure) (c : Chunk) (homes : Named Live) (vsn : List ℕ) (rest : ℕ) → IsSome (get homes c.vsn.0)
+one_more : (m : Measure) (c : Chunk) (homes : ByName Live) (vsn : List ℕ) (rest : ℕ) → IsSome (get homes c.vsn.0)
     → kept_at m (get homes vsn) + cond (is_on vsn c) (m.of c + rest) rest < 2 ^ 128
     → kept_at m (get (adjust homes c.vsn.0 (with_more c.len)) vsn) + rest ≡ kept_at m (get homes vsn) + cond (is_on vsn c) (m.of c + rest) rest
 one_more m c homes vsn rest there small =
@@ -94,7 +94,7 @@ one_more m c homes vsn rest there small =
           omega arith
     ]
 
-one_fewer : (m : Measure) (c : Chunk) (homes : Named Live) (vsn : List ℕ) (rest : ℕ)
+one_fewer : (m : Measure) (c : Chunk) (homes : ByName Live) (vsn : List ℕ) (rest : ℕ)
     → kept_at m (get (adjust homes c.vsn.0 (with_fewer c.len)) vsn) - rest ≡ kept_at m (get homes vsn) - cond (is_on vsn c) (m.of c + rest) rest
 one_fewer m c homes vsn rest =
     elim (same_or paths c.vsn.0 vsn) [
@@ -112,7 +112,7 @@ one_fewer m c homes vsn rest =
 
 -- ---- a list of chunks
 
-pub all_more : (m : Measure) (cs : List Chunk) (homes : Named Live) (vsn : List ℕ) → Known homes cs → kept_at m (get homes vsn) + sum_in m vsn cs < 2 ^ 128
+pub all_more : (m : Measure) (cs : List Chunk) (homes : ByName Live) (vsn : List ℕ) → Known homes cs → kept_at m (get homes vsn) + sum_in m vsn cs < 2 ^ 128
     → kept_at m (get (with_all cs homes) vsn) ≡ kept_at m (get homes vsn) + sum_in m vsn cs
 unfolding with_all
 all_more m [] homes vsn known small = omega arith
@@ -122,23 +122,23 @@ all_more m (c ∷ cs) homes vsn known small =
     all_more m cs (adjust homes c.vsn.0 (with_more c.len)) vsn (known_kept homes (adjust homes c.vsn.0 (with_more c.len)) cs (known_adjust (with_more c.len) c.vsn.0 homes) known.1) fits
     ∙ one
 
-pub all_fewer : (m : Measure) (cs : List Chunk) (homes : Named Live) (vsn : List ℕ)
+pub all_fewer : (m : Measure) (cs : List Chunk) (homes : ByName Live) (vsn : List ℕ)
     → kept_at m (get (without_all cs homes) vsn) ≡ kept_at m (get homes vsn) - sum_in m vsn cs
 unfolding without_all
 all_fewer m [] homes vsn = omega arith
 all_fewer m (c ∷ cs) homes vsn =
     all_fewer m cs (adjust homes c.vsn.0 (with_fewer c.len)) vsn ∙ one_fewer m c homes vsn (sum_in m vsn cs)
 
-keeps_then : (a b c : Named Live) → KeepsHomes a b → KeepsHomes b c → KeepsHomes a c
+keeps_then : (a b c : ByName Live) → KeepsHomes a b → KeepsHomes b c → KeepsHomes a c
 keeps_then a b c h g vsn there = g vsn (h vsn there)
 
-pub more_keeps : (cs : List Chunk) (homes : Named Live) → KeepsHomes homes (with_all cs homes)
+pub more_keeps : (cs : List Chunk) (homes : ByName Live) → KeepsHomes homes (with_all cs homes)
 unfolding with_all
 more_keeps [] homes = λ vsn there. there
 more_keeps (c ∷ cs) homes =
     keeps_then homes (adjust homes c.vsn.0 (with_more c.len)) (with_all cs (adjust homes c.vsn.0 (with_more c.len))) (known_adjust (with_more c.len) c.vsn.0 homes) (more_keeps cs (adjust homes c.vsn.0 (with_more c.len)))
 
-pub fewer_keeps : (cs : List Chunk) (homes : Named Live) → KeepsHomes homes (without_all cs homes)
+pub fewer_keeps : (cs : List Chunk) (homes : ByName Live) → KeepsHomes homes (without_all cs homes)
 unfolding without_all
 fewer_keeps [] homes = λ vsn there. there
 fewer_keeps (c ∷ cs) homes =
@@ -164,7 +164,7 @@ all_few : (w : BitfileRow → ℕ) (es : List (ℕ × BitfileRow)) → AllByRecu
 all_few w [] all = omega arith
 all_few w (e ∷ es) all = let rest = all_few w es all.1 in let here = all.0 in omega arith
 
-pub sum_small : (m : Measure) → IsSmall m → (bitfiles : Numbered BitfileRow) (vsn : List ℕ) → EachRow bitfiles (λ b r. IsWhole r) → sum_on m bitfiles vsn ≤ 2 ^ 64 * len bitfiles
+pub sum_small : (m : Measure) → IsSmall m → (bitfiles : ByNumber BitfileRow) (vsn : List ℕ) → EachRow bitfiles (λ b r. IsWhole r) → sum_on m bitfiles vsn ≤ 2 ^ 64 * len bitfiles
 sum_small m less bitfiles vsn whole =
     let few = all_few (λ r. sum_in m vsn r.chunks) (entries bitfiles) (entries-each numbers (λ b r. sum_in m vsn r.chunks < 2 ^ 64) bitfiles (λ b r e. row_few m less vsn r (whole b r e))) in
     let sum : sum_on m bitfiles vsn ≡ sum_of (λ r. sum_in m vsn r.chunks) (entries bitfiles) = total-entries (λ r. sum_in m vsn r.chunks) bitfiles in
@@ -173,7 +173,7 @@ sum_small m less bitfiles vsn whole =
 
 -- ---- a bitfile comes and goes
 
-pub holds_in : (m : Measure) → IsSmall m → (homes : Named Live) (bitfiles : Numbered BitfileRow) (b : ℕ) (r : BitfileRow) → EachRow bitfiles (λ b r. IsWhole r) → len bitfiles < 2 ^ 63
+pub holds_in : (m : Measure) → IsSmall m → (homes : ByName Live) (bitfiles : ByNumber BitfileRow) (b : ℕ) (r : BitfileRow) → EachRow bitfiles (λ b r. IsWhole r) → len bitfiles < 2 ^ 63
     → get bitfiles b ≡ None → IsWhole r → Known homes r.chunks → Holds m homes bitfiles → Holds m (with_all r.chunks homes) (insert bitfiles b r)
 holds_in m less homes bitfiles b r whole few none new known holds vsn =
     let all = sum_small m less bitfiles vsn whole in
@@ -185,7 +185,7 @@ holds_in m less homes bitfiles b r whole few none new known holds vsn =
     let nothing : weight_at (λ r. sum_in m vsn r.chunks) (get bitfiles b) ≡ 0 = ap (weight_at (λ r. sum_in m vsn r.chunks)) none in
     omega arith
 
-pub holds_out : (m : Measure) (homes : Named Live) (bitfiles : Numbered BitfileRow) (b : ℕ) (r : BitfileRow)
+pub holds_out : (m : Measure) (homes : ByName Live) (bitfiles : ByNumber BitfileRow) (b : ℕ) (r : BitfileRow)
     → get bitfiles b ≡ Some r → Holds m homes bitfiles → Holds m (without_all r.chunks homes) (remove bitfiles b)
 holds_out m homes bitfiles b r there holds vsn =
     let was : kept_at m (get homes vsn) ≡ sum_on m bitfiles vsn = holds vsn in
@@ -210,10 +210,10 @@ long_in : (vsn : List ℕ) (cs : List Chunk) → sum_in how_long vsn cs ≡ live
 long_in vsn [] = refl
 long_in vsn (c ∷ cs) = ap (λ n. cond (is_on vsn c) (c.len + n) n) (long_in vsn cs)
 
-pub many_on : (bitfiles : Numbered BitfileRow) (vsn : List ℕ) → sum_on how_many bitfiles vsn ≡ count_on bitfiles vsn
+pub many_on : (bitfiles : ByNumber BitfileRow) (vsn : List ℕ) → sum_on how_many bitfiles vsn ≡ count_on bitfiles vsn
 many_on bitfiles vsn = total-same numbers (λ r. sum_in how_many vsn r.chunks) (λ r. count_in vsn r.chunks) bitfiles (λ b r e. many_in vsn r.chunks)
 
-pub long_on : (bitfiles : Numbered BitfileRow) (vsn : List ℕ) → sum_on how_long bitfiles vsn ≡ live_on bitfiles vsn
+pub long_on : (bitfiles : ByNumber BitfileRow) (vsn : List ℕ) → sum_on how_long bitfiles vsn ≡ live_on bitfiles vsn
 long_on bitfiles vsn = total-same numbers (λ r. sum_in how_long vsn r.chunks) (λ r. live_in vsn r.chunks) bitfiles (λ b r e. long_in vsn r.chunks)
 
 many_at : (o : Option Live) → kept_at how_many o ≡ chunks_at o
@@ -224,27 +224,27 @@ long_at : (o : Option Live) → kept_at how_long o ≡ bytes_at o
 long_at None = refl
 long_at (Some l) = refl
 
-pub summed_of : (homes : Named Live) (bitfiles : Numbered BitfileRow) → Holds how_many homes bitfiles → Holds how_long homes bitfiles → Summed homes bitfiles
+pub summed_of : (homes : ByName Live) (bitfiles : ByNumber BitfileRow) → Holds how_many homes bitfiles → Holds how_long homes bitfiles → Summed homes bitfiles
 summed_of homes bitfiles many long = record {
   chunks = λ vsn. sym (many_at (get homes vsn)) ∙ many vsn ∙ many_on bitfiles vsn;
   bytes = λ vsn. sym (long_at (get homes vsn)) ∙ long vsn ∙ long_on bitfiles vsn;
 }
 
-pub holds_many : (homes : Named Live) (bitfiles : Numbered BitfileRow) → Summed homes bitfiles → Holds how_many homes bitfiles
+pub holds_many : (homes : ByName Live) (bitfiles : ByNumber BitfileRow) → Summed homes bitfiles → Holds how_many homes bitfiles
 holds_many homes bitfiles s vsn = many_at (get homes vsn) ∙ s.chunks vsn ∙ sym (many_on bitfiles vsn)
 
-pub holds_long : (homes : Named Live) (bitfiles : Numbered BitfileRow) → Summed homes bitfiles → Holds how_long homes bitfiles
+pub holds_long : (homes : ByName Live) (bitfiles : ByNumber BitfileRow) → Summed homes bitfiles → Holds how_long homes bitfiles
 holds_long homes bitfiles s vsn = long_at (get homes vsn) ∙ s.bytes vsn ∙ sym (long_on bitfiles vsn)
 
 -- ---- what the table keeps
 
-pub summed_empty : (homes : Named Live) (bitfiles : Numbered BitfileRow) → homes ≡ empty → bitfiles ≡ empty → Summed homes bitfiles
+pub summed_empty : (homes : ByName Live) (bitfiles : ByNumber BitfileRow) → homes ≡ empty → bitfiles ≡ empty → Summed homes bitfiles
 summed_empty homes bitfiles none nothing = record {
   chunks = λ vsn. ap (λ h. chunks_at (get h vsn)) none ∙ ap chunks_at (get-empty _ vsn) ∙ sym (ap (λ m. count_on m vsn) nothing ∙ total-empty _ (λ row. count_in vsn row.chunks));
   bytes = λ vsn. ap (λ h. bytes_at (get h vsn)) none ∙ ap bytes_at (get-empty _ vsn) ∙ sym (ap (λ m. live_on m vsn) nothing ∙ total-empty _ (λ row. live_in vsn row.chunks));
 }
 
-pub summed_in : (homes more : Named Live) (bitfiles after : Numbered BitfileRow) (b : ℕ) (r : BitfileRow) → EachRow bitfiles (λ b r. IsWhole r) → len bitfiles < 2 ^ 63
+pub summed_in : (homes more : ByName Live) (bitfiles after : ByNumber BitfileRow) (b : ℕ) (r : BitfileRow) → EachRow bitfiles (λ b r. IsWhole r) → len bitfiles < 2 ^ 63
     → get bitfiles b ≡ None → IsWhole r → Known homes r.chunks → more ≡ with_all r.chunks homes → after ≡ insert bitfiles b r → Summed homes bitfiles → Summed more after
 summed_in homes more bitfiles after b r whole few none new known is put s =
     subst (λ h. Summed h after) (sym is) (subst (λ m. Summed (with_all r.chunks homes) m) (sym put)
@@ -252,7 +252,7 @@ summed_in homes more bitfiles after b r whole few none new known is put s =
     (holds_in how_many many_small homes bitfiles b r whole few none new known (holds_many homes bitfiles s))
     (holds_in how_long long_small homes bitfiles b r whole few none new known (holds_long homes bitfiles s))))
 
-pub summed_out : (homes fewer : Named Live) (bitfiles after : Numbered BitfileRow) (b : ℕ) (r : BitfileRow)
+pub summed_out : (homes fewer : ByName Live) (bitfiles after : ByNumber BitfileRow) (b : ℕ) (r : BitfileRow)
     → get bitfiles b ≡ Some r → fewer ≡ without_all r.chunks homes → after ≡ remove bitfiles b → Summed homes bitfiles → Summed fewer after
 summed_out homes fewer bitfiles after b r there is out s =
     subst (λ h. Summed h after) (sym is) (subst (λ m. Summed (without_all r.chunks homes) m) (sym out)
@@ -260,7 +260,7 @@ summed_out homes fewer bitfiles after b r there is out s =
     (holds_out how_many homes bitfiles b r there (holds_many homes bitfiles s))
     (holds_out how_long homes bitfiles b r there (holds_long homes bitfiles s))))
 
-pub summed_same : (homes more : Named Live) (bitfiles : Numbered BitfileRow) → Same homes more → Summed homes bitfiles → Summed more bitfiles
+pub summed_same : (homes more : ByName Live) (bitfiles : ByNumber BitfileRow) → Same homes more → Summed homes bitfiles → Summed more bitfiles
 summed_same homes more bitfiles same s = record {
   chunks = λ vsn. same.chunks vsn ∙ s.chunks vsn;
   bytes = λ vsn. same.bytes vsn ∙ s.bytes vsn;
@@ -272,10 +272,10 @@ none_of : {X : Type 0} (o : Option X) → false ≡ is_some o → o ≡ None
 none_of None e = refl
 none_of (Some x) e = cc
 
-put_here : (homes : Named Live) (k q : List ℕ) (l : Live) → q ≡ k → get (insert homes k l) q ≡ Some l
+put_here : (homes : ByName Live) (k q : List ℕ) (l : Live) → q ≡ k → get (insert homes k l) q ≡ Some l
 put_here homes k q l same = ap (get (insert homes k l)) same ∙ get-here paths homes k l
 
-pub same_zero : (homes after : Named Live) (k : List ℕ) (l : Live) → false ≡ is_some (get homes k) → l.chunks ≡ 0 → l.bytes ≡ 0 → after ≡ insert homes k l → Same homes after
+pub same_zero : (homes after : ByName Live) (k : List ℕ) (l : Live) → false ≡ is_some (get homes k) → l.chunks ≡ 0 → l.bytes ≡ 0 → after ≡ insert homes k l → Same homes after
 same_zero homes after k l unknown few short put =
     subst (Same homes) (sym put) record {
       chunks = λ vsn. at chunks_at vsn (few ∙ sym (ap chunks_at (none_of (get homes k) unknown)));
@@ -297,20 +297,20 @@ same_zero homes after k l unknown few short put =
           | inr differ ↦ subst IsSome (sym (get-beside paths homes k l vsn differ)) there
         ]
 
-pub known_zero : (homes after : Named Live) (k : List ℕ) (l : Live) → after ≡ insert homes k l → IsSome (get after k)
+pub known_zero : (homes after : ByName Live) (k : List ℕ) (l : Live) → after ≡ insert homes k l → IsSome (get after k)
 known_zero homes after k l put = subst (λ h. IsSome (get h k)) (sym put) (subst IsSome (sym (get-here paths homes k l)) refl)
 
-pub same_refl : (homes : Named Live) → Same homes homes
+pub same_refl : (homes : ByName Live) → Same homes homes
 same_refl homes = record { chunks = λ vsn. refl; bytes = λ vsn. refl; kept = λ vsn there. there }
 
-pub same_then : (a b c : Named Live) → Same a b → Same b c → Same a c
+pub same_then : (a b c : ByName Live) → Same a b → Same b c → Same a c
 same_then a b c h g = record {
   chunks = λ vsn. g.chunks vsn ∙ h.chunks vsn;
   bytes = λ vsn. g.bytes vsn ∙ h.bytes vsn;
   kept = λ vsn there. g.kept vsn (h.kept vsn there);
 }
 
-pub kept_moved : (homes fewer more : Named Live) (gone_chunks come_chunks : List Chunk) → fewer ≡ without_all gone_chunks homes → more ≡ with_all come_chunks fewer → KeepsHomes homes more
+pub kept_moved : (homes fewer more : ByName Live) (gone_chunks come_chunks : List Chunk) → fewer ≡ without_all gone_chunks homes → more ≡ with_all come_chunks fewer → KeepsHomes homes more
 kept_moved homes fewer more gone_chunks come_chunks gone came =
     subst (KeepsHomes homes) (sym came)
     (keeps_then homes fewer (with_all come_chunks fewer) (subst (KeepsHomes homes) (sym gone) (fewer_keeps gone_chunks homes)) (more_keeps come_chunks fewer))

@@ -7,7 +7,7 @@ use Rattle.std.specs.FinMap.{entries, get}
 use Rattle.dm_base.specs.declared.volume.Chunk.{Chunk}
 use Rattle.dm_durable.specs.declared.group.BitfileRow.{BitfileRow}
 use Rattle.dm_durable.specs.Group.{has_chunk_on, is_on}
-use Rattle.dm_durable.specs.Tables.{Numbered}
+use Rattle.dm_durable.specs.Tables.{ByNumber}
 use Rattle.dm_durable.specs.Volumes.{live_in, live_on, weight_on}
 use Rattle.dm_rules.specs.Merge.{weights}
 use Rattle.dm_rules.specs.Numbers.{as_word}
@@ -50,7 +50,7 @@ both_sums f g k (e ∷ es) = joined (f e.1) (g e.1) k (sum_of f es) (sum_of g es
     joined : (a b k s t u : ℕ) → u ≡ s * k + t → a * k + b + u ≡ (a + s) * k + (b + t)
     joined a b k s t u e = grind arith
 
-pub weight_is : (bitfiles : Numbered BitfileRow) (version : ℕ) (vsn : List ℕ) → weight_on bitfiles version vsn ≡ count_on bitfiles vsn * front_of version + live_on bitfiles vsn
+pub weight_is : (bitfiles : ByNumber BitfileRow) (version : ℕ) (vsn : List ℕ) → weight_on bitfiles version vsn ≡ count_on bitfiles vsn * front_of version + live_on bitfiles vsn
 weight_is bitfiles version vsn =
     total-same numbers (λ r. weights version (filter (is_on vsn) r.chunks)) (λ r. count_in vsn r.chunks * front_of version + live_in vsn r.chunks) bitfiles (λ b r e. weights_in version vsn r.chunks)
     ∙ total-entries (λ r. count_in vsn r.chunks * front_of version + live_in vsn r.chunks) bitfiles
@@ -86,7 +86,7 @@ none_weighs : (es : List (ℕ × BitfileRow)) → sum_of {K = ℕ} (λ (r : Bitf
 none_weighs [] = refl
 none_weighs (e ∷ es) = let rest = none_weighs es in omega arith
 
-pub live_test : (bitfiles : Numbered BitfileRow) (vsn : List ℕ) → nat_lt 0 (count_on bitfiles vsn) ≡ has_chunk_on bitfiles vsn
+pub live_test : (bitfiles : ByNumber BitfileRow) (vsn : List ℕ) → nat_lt 0 (count_on bitfiles vsn) ≡ has_chunk_on bitfiles vsn
 live_test bitfiles vsn = by_test (count_on bitfiles vsn) (has_chunk_on bitfiles vsn) some none
   where
     by_test : (n : ℕ) (t : Bool) → (t ≡ true → 0 < n) → (t ≡ false → n ≡ 0) → nat_lt 0 n ≡ t

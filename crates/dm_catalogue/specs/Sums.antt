@@ -6,7 +6,7 @@ use Rattle.dm_base.specs.declared.volume.Chunk.{Chunk}
 use Rattle.dm_durable.specs.declared.group.BitfileRow.{BitfileRow}
 use Rattle.dm_durable.specs.Group.{chunk_at, is_on}
 use Rattle.dm_durable.specs.GroupConditions.{Joins}
-use Rattle.dm_durable.specs.Tables.{Named, Numbered}
+use Rattle.dm_durable.specs.Tables.{ByName, ByNumber}
 use Rattle.dm_durable.specs.Volumes.{live_on}
 use Rattle.dm_tables.specs.Rows.{adjust}
 use Rattle.dm_tables.specs.Totals.{total}
@@ -55,7 +55,7 @@ count_in vsn [] = 0
 count_in vsn (c ∷ cs) = cond (is_on vsn c) (1 + count_in vsn cs) (count_in vsn cs)
 
 -- how many of all chunks do
-abbrev pub count_on : Numbered BitfileRow → List ℕ → ℕ
+abbrev pub count_on : ByNumber BitfileRow → List ℕ → ℕ
 count_on bitfiles vsn = total (λ row. count_in vsn row.chunks) bitfiles
 
 -- ---- what is kept of them
@@ -69,20 +69,20 @@ bytes_at None = 0
 bytes_at (Some l) = l.bytes
 
 -- what is kept of each volume are the sums over all bitfiles; where nothing is kept, nothing lies there
-pub record Summed (homes : Named Live) (bitfiles : Numbered BitfileRow) : Type 0 where
+pub record Summed (homes : ByName Live) (bitfiles : ByNumber BitfileRow) : Type 0 where
   pub chunks : (vsn : List ℕ) → chunks_at (map.get homes vsn) ≡ count_on bitfiles vsn
   pub bytes : (vsn : List ℕ) → bytes_at (map.get homes vsn) ≡ live_on bitfiles vsn
 
 -- something is kept of the volumes of these chunks
-abbrev pub Known : Named Live → List Chunk → Type 0
+abbrev pub Known : ByName Live → List Chunk → Type 0
 Known homes chunks = AllByRecursion (λ c. IsSome (map.get homes c.vsn.0)) chunks
 
 -- each volume of which something is kept in the first has something in the second
-abbrev pub KeepsHomes : Named Live → Named Live → Type 0
+abbrev pub KeepsHomes : ByName Live → ByName Live → Type 0
 KeepsHomes old new = (vsn : List ℕ) → IsSome (map.get old vsn) → IsSome (map.get new vsn)
 
 -- what is kept is the same, but for volumes on which nothing lies
-pub record Same (old new : Named Live) : Type 0 where
+pub record Same (old new : ByName Live) : Type 0 where
   pub chunks : (vsn : List ℕ) → chunks_at (map.get new vsn) ≡ chunks_at (map.get old vsn)
   pub bytes : (vsn : List ℕ) → bytes_at (map.get new vsn) ≡ bytes_at (map.get old vsn)
   pub kept : KeepsHomes old new
@@ -95,10 +95,10 @@ abbrev pub with_fewer : ℕ → Live → Live
 with_fewer len l = record { chunks = l.chunks - 1; bytes = l.bytes - len }
 
 -- each of these chunks does
-unfoldable pub with_all : List Chunk → Named Live → Named Live
+unfoldable pub with_all : List Chunk → ByName Live → ByName Live
 with_all [] homes = homes
 with_all (c ∷ cs) homes = with_all cs (adjust homes c.vsn.0 (with_more c.len))
 
-unfoldable pub without_all : List Chunk → Named Live → Named Live
+unfoldable pub without_all : List Chunk → ByName Live → ByName Live
 without_all [] homes = homes
 without_all (c ∷ cs) homes = without_all cs (adjust homes c.vsn.0 (with_fewer c.len))

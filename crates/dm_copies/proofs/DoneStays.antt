@@ -12,7 +12,7 @@ use Rattle.dm_durable.specs.declared.group.GroupRecord.{GroupRecord}
 use Rattle.dm_durable.specs.declared.group.GroupStep.{GroupStep}
 use Rattle.dm_durable.specs.declared.group.GroupStep.TheVariants as group_step
 use Rattle.dm_durable.specs.Inodes.{bytes_online}
-use Rattle.dm_durable.specs.Tables.{Numbered}
+use Rattle.dm_durable.specs.Tables.{ByNumber}
 use Rattle.dm_model.specs.declared.answer.Answer.{Answer}
 use Rattle.dm_model.specs.declared.call.Call.{Call}
 use Rattle.dm_model.specs.declared.call.Component.{Component}
@@ -58,10 +58,10 @@ done_then h i l one two = record {
 
 -- ---- what hard deletes took
 
-abbrev pub Within : {X : Type 0} → Numbered X → Numbered X → Type 0
+abbrev pub Within : {X : Type 0} → ByNumber X → ByNumber X → Type 0
 Within m n = (b : ℕ) → IsSome (map.get m b) → IsSome (map.get n b)
 
-insert_within : {X : Type 0} (m n : Numbered X) (b : ℕ) (v : X) → Within m n → Within (map.insert m b v) (map.insert n b v)
+insert_within : {X : Type 0} (m n : ByNumber X) (b : ℕ) (v : X) → Within m n → Within (map.insert m b v) (map.insert n b v)
 insert_within m n b v within = λ q is.
     elim (same_or numbers b q) [
       | inl same ↦ ap (λ x. is_some (map.get (map.insert n b v) x)) same ∙ ap is_some (get-here numbers n b v)
@@ -69,11 +69,11 @@ insert_within m n b v within = λ q is.
           ap is_some (get-beside numbers n b v q differ) ∙ within q (sym (ap is_some (get-beside numbers m b v q differ)) ∙ is)
     ]
 
-taken_more : (bs : List Bfid) (taken : Numbered (Unit {0})) → Within taken (with_taken bs taken)
+taken_more : (bs : List Bfid) (taken : ByNumber (Unit {0})) → Within taken (with_taken bs taken)
 taken_more [] taken = λ q is. is
 taken_more (b ∷ bs) taken = λ q is. taken_more bs (map.insert taken b.0 tt) q (still_there numbers taken b.0 tt q is)
 
-taken_within : (bs : List Bfid) (m n : Numbered (Unit {0})) → Within m n → Within (with_taken bs m) (with_taken bs n)
+taken_within : (bs : List Bfid) (m n : ByNumber (Unit {0})) → Within m n → Within (with_taken bs m) (with_taken bs n)
 taken_within [] m n within = within
 taken_within (b ∷ bs) m n within = taken_within bs (map.insert m b.0 tt) (map.insert n b.0 tt) (insert_within m n b.0 tt within)
 
@@ -137,10 +137,10 @@ adds_deleted b = record {
 }
 
 module _ (g : ℕ) (f : GroupHistory → GroupHistory) (adds : Adds f) where
-  abbrev With : Numbered GroupHistory → Numbered GroupHistory
+  abbrev With : ByNumber GroupHistory → ByNumber GroupHistory
   With m = map.insert m g (f (group_history_or (map.get m g)))
 
-  group_more : (m : Numbered GroupHistory) (q : ℕ) → GroupWithinIf (map.get m q) (map.get (With m) q)
+  group_more : (m : ByNumber GroupHistory) (q : ℕ) → GroupWithinIf (map.get m q) (map.get (With m) q)
   group_more m q =
       elim (same_or numbers g q) [
         | inl same ↦
@@ -150,7 +150,7 @@ module _ (g : ℕ) (f : GroupHistory → GroupHistory) (adds : Adds f) where
         | inr differ ↦ subst (λ o. GroupWithinIf (map.get m q) o) (sym (get-beside numbers m g _ q differ)) (within_self (map.get m q))
       ]
 
-  group_same : (m n : Numbered GroupHistory) → ((q : ℕ) → GroupWithinIf (map.get m q) (map.get n q)) → (q : ℕ)
+  group_same : (m n : ByNumber GroupHistory) → ((q : ℕ) → GroupWithinIf (map.get m q) (map.get n q)) → (q : ℕ)
       → GroupWithinIf (map.get (With m) q) (map.get (With n) q)
   group_same m n within q =
       elim (same_or numbers g q) [
@@ -255,7 +255,7 @@ marked_done (mark.Source g m bytes) h = done_itself h
 
 -- ---- the same part in two states, where one has all that the other has
 
-contents_same : (b : ℕ) (o : Option File) (m n : Numbered (List ℕ)) → ((q : ℕ) (bytes : List ℕ) → map.get m q ≡ Some bytes → map.get n q ≡ Some bytes)
+contents_same : (b : ℕ) (o : Option File) (m n : ByNumber (List ℕ)) → ((q : ℕ) (bytes : List ℕ) → map.get m q ≡ Some bytes → map.get n q ≡ Some bytes)
     → (q : ℕ) (bytes : List ℕ) → map.get (contents_with b o m) q ≡ Some bytes → map.get (contents_with b o n) q ≡ Some bytes
 contents_same b None m n within q bytes is = within q bytes is
 contents_same b (Some f) m n within q bytes is =

@@ -19,7 +19,7 @@ use Rattle.dm_durable.specs.declared.daemon.Inode.{Inode}
 use Rattle.dm_durable.specs.Daemon.{after_begin_put, after_begin_put_at, after_end_put, after_release, after_remove, after_restore, after_step, with_dropping, with_named}
 use Rattle.dm_durable.specs.Dumps.{file_in}
 use Rattle.dm_durable.specs.Entries.{after_letting_go_if, as_dropping, asks, with_copy_of, without_deletion_time}
-use Rattle.dm_durable.specs.Tables.{Numbered}
+use Rattle.dm_durable.specs.Tables.{ByNumber}
 use Rattle.dm_invariant.specs.Among.{IsAmong}
 use Rattle.dm_invariant.proofs.LettingGo.{StaysOrGoes, let_go-there}
 use Rattle.dm_invariant.proofs.Lists.{passing}
@@ -35,7 +35,7 @@ pub record Still (e : Entry) (o : Option Entry) : Type 0 where
 still_itself : (e : Entry) (o : Option Entry) → o ≡ Some e → Still e o
 still_itself e o is = record { later = e; is = is; asked = λ g. refl; lasting = refl }
 
-still_adjusted : (entries : Numbered Entry) (b : ℕ) (f : Entry → Entry) → ((e : Entry) (g : ℕ) → asks (f e) g ≡ asks e g)
+still_adjusted : (entries : ByNumber Entry) (b : ℕ) (f : Entry → Entry) → ((e : Entry) (g : ℕ) → asks (f e) g ≡ asks e g)
     → ((e : Entry) → (f e).dropping ≡ e.dropping) → (q : ℕ) (e : Entry) → map.get entries q ≡ Some e → Still e (map.get (adjust entries b f) q)
 still_adjusted entries b f asked lasting q e is =
     elim (same_or numbers b q) [
@@ -48,24 +48,24 @@ still_adjusted entries b f asked lasting q e is =
       | inr differ ↦ still_itself e _ (adjusted-beside numbers entries b f q differ ∙ is)
     ]
 
-still_left : (inodes : Numbered Inode) (time : ℕ) (o : Option ℕ) (q : ℕ) (e f : Entry) (at : Option Entry) → at ≡ Some f
+still_left : (inodes : ByNumber Inode) (time : ℕ) (o : Option ℕ) (q : ℕ) (e f : Entry) (at : Option Entry) → at ≡ Some f
     → StaysOrGoes inodes time o q e f → Still e at
 still_left inodes time o q e f at is (inl same) =
     record { later = f; is = is; asked = λ g. ap (λ (x : Entry). asks x g) same; lasting = ap (λ (x : Entry). x.dropping) same }
 still_left inodes time o q e f at is (inr gone) =
     record { later = f; is = is; asked = λ g. ap (λ (x : Entry). asks x g) gone.2; lasting = ap (λ (x : Entry). x.dropping) gone.2 }
 
-still_let_go : (entries : Numbered Entry) (inodes : Numbered Inode) (time : ℕ) (o : Option ℕ) (q : ℕ) (e : Entry) → map.get entries q ≡ Some e
+still_let_go : (entries : ByNumber Entry) (inodes : ByNumber Inode) (time : ℕ) (o : Option ℕ) (q : ℕ) (e : Entry) → map.get entries q ≡ Some e
     → Still e (map.get (after_letting_go_if entries inodes time o) q)
 still_let_go entries inodes time o q e is =
     let f = let_go-there entries inodes time o q e is in
     still_left inodes time o q e f.0 _ f.1 f.2
 
-still_beside : (entries : Numbered Entry) (b q : ℕ) (e v : Entry) → q ≢ b → Still e (map.get entries q) → Still e (map.get (map.insert entries b v) q)
+still_beside : (entries : ByNumber Entry) (b q : ℕ) (e v : Entry) → q ≢ b → Still e (map.get entries q) → Still e (map.get (map.insert entries b v) q)
 still_beside entries b q e v differ still =
     record { later = still.later; is = get-beside numbers entries b v q differ ∙ still.is; asked = still.asked; lasting = still.lasting }
 
-still_spared : (bfids : List Bfid) (entries : Numbered Entry) (q : ℕ) (e : Entry) → ((c : Bfid) → IsAmong c bfids → c.0 ≡ q → ⊥)
+still_spared : (bfids : List Bfid) (entries : ByNumber Entry) (q : ℕ) (e : Entry) → ((c : Bfid) → IsAmong c bfids → c.0 ≡ q → ⊥)
     → map.get entries q ≡ Some e → Still e (map.get (with_dropping bfids entries) q)
 still_spared bfids entries q e spared is =
     let test = list_any (λ (c : Bfid). nat_eq c.0 q) bfids in

@@ -22,7 +22,7 @@ use Rattle.dm_durable.specs.declared.daemon.DaemonTables.{DaemonTables}
 use Rattle.dm_durable.specs.Daemon.{after_record, after_stop, bfid_of}
 use Rattle.dm_durable.specs.DaemonJournal.{IsGiven}
 use Rattle.dm_durable.specs.Inodes.{has_making}
-use Rattle.dm_durable.specs.Tables.{Numbered}
+use Rattle.dm_durable.specs.Tables.{ByNumber}
 use Rattle.dm_model.specs.declared.answer.Answer.{Answer}
 use Rattle.dm_model.specs.declared.call.Call.{Call}
 use Rattle.dm_model.specs.declared.call.Call.TheVariants as call
@@ -126,7 +126,7 @@ module _ (w : ℕ) (p : Prepared) (j : Joint) (ends : EndsSpare j.daemon p.ends)
 
 -- ---- calls of the daemon
 
-pays_if : (t : DaemonTables) (requests : Numbered OpenRequest) (o : Option Answer) (q : Option Payload)
+pays_if : (t : DaemonTables) (requests : ByNumber OpenRequest) (o : Option Answer) (q : Option Payload)
     → (o ≡ None → PaysSpare t requests q) → PaysSpare t requests (if_accepted o None q)
 pays_if t requests None q pays = pays refl
 pays_if t requests (Some refusal) q pays = tt
@@ -365,7 +365,7 @@ group_ends g (ending.Reservation h n b) d of = tt
 group_ends g (ending.Mount h m) d of = tt
 group_ends g (ending.Move h job source target) d of = tt
 
-group_pays : (g : GroupId) (t : DaemonTables) (requests : Numbered OpenRequest) (p : Option Payload) → PaysOf g p → PaysSpare t requests p
+group_pays : (g : GroupId) (t : DaemonTables) (requests : ByNumber OpenRequest) (p : Option Payload) → PaysOf g p → PaysSpare t requests p
 group_pays g t requests None of = tt
 group_pays g t requests (Some (payload.Daemon r)) of = absurd of
 group_pays g t requests (Some (payload.Group h r)) of = tt

@@ -15,7 +15,7 @@ use Rattle.dm_durable.specs.declared.group.GroupStep.{GroupStep}
 use Rattle.dm_durable.specs.declared.group.GroupStep.TheVariants as group_step
 use Rattle.dm_durable.specs.DaemonJournal.{IsGiven}
 use Rattle.dm_durable.specs.Entries.{new_entry}
-use Rattle.dm_durable.specs.Tables.{Numbered}
+use Rattle.dm_durable.specs.Tables.{ByNumber}
 use Rattle.dm_model.specs.declared.call.Component.{Component}
 use Rattle.dm_model.specs.declared.call.Component.TheVariants as component
 use Rattle.dm_model.specs.declared.plan.Ending.{Ending}
@@ -52,7 +52,7 @@ use Rattle.dm_copies.proofs.TablesStay.{contents_given, copy_paid}
 
 -- ---- what is kept, but for a step in doubt
 
-pub record Standing (t : DaemonTables) (requests : Numbered OpenRequest) (next : ℕ) (contents : Numbered (List ℕ)) (sides : Numbered Side) : Type 0 where
+pub record Standing (t : DaemonTables) (requests : ByNumber OpenRequest) (next : ℕ) (contents : ByNumber (List ℕ)) (sides : ByNumber Side) : Type 0 where
   pub numbers : EachRow requests (λ k r. k < next)
   pub given : EachRow contents (λ b bytes. IsGiven t.site t.counter b)
   pub copies : EachRow sides (λ g s. EachRow s.copies (CopyIsAsked t requests g))
@@ -62,8 +62,8 @@ Stands j = Standing j.daemon.tables j.daemon.requests j.daemon.next_request j.hi
 
 -- ---- the copies of a side
 
-module _ (t : DaemonTables) (requests : Numbered OpenRequest) (g : ℕ) where
-  abbrev Asked : Numbered CopyState → Type 0
+module _ (t : DaemonTables) (requests : ByNumber OpenRequest) (g : ℕ) where
+  abbrev Asked : ByNumber CopyState → Type 0
   Asked copies = EachRow copies (CopyIsAsked t requests g)
 
   same_request : (b : ℕ) (c d : CopyState) → d.request ≡ c.request → CopyIsAsked t requests g b c → CopyIsAsked t requests g b d
@@ -76,12 +76,12 @@ module _ (t : DaemonTables) (requests : Numbered OpenRequest) (g : ℕ) where
     put = subst (λ k. PutOf requests k b) (sym same) kept.put;
   }
 
-  changed : (copies : Numbered CopyState) (b : ℕ) (f : CopyState → CopyState) → ((c : CopyState) → (f c).request ≡ c.request) → Asked copies
+  changed : (copies : ByNumber CopyState) (b : ℕ) (f : CopyState → CopyState) → ((c : CopyState) → (f c).request ≡ c.request) → Asked copies
       → Asked (adjust copies b f)
   changed copies b f same each =
       each-adjust numbers (CopyIsAsked t requests g) copies b f (λ c is. same_request b c (f c) (same c) (each b c is)) each
 
-  unmounted : (m : ℕ) (o : Origin) (copies : Numbered CopyState) → Asked copies → Asked (copies_unmounted m o copies)
+  unmounted : (m : ℕ) (o : Origin) (copies : ByNumber CopyState) → Asked copies → Asked (copies_unmounted m o copies)
   unmounted m (origin.New listed format) copies each = each
   unmounted m (origin.Piece b index piece chunk) copies each = changed copies b.0 _ (λ c. refl) each
   unmounted m (origin.Chunk b chunk) copies each = each
@@ -89,11 +89,11 @@ module _ (t : DaemonTables) (requests : Numbered OpenRequest) (g : ℕ) where
   unmounted m (origin.Target job b total chunk version) copies each = each
   unmounted m (origin.Reuse next_epoch version reading) copies each = each
 
-  unmounted_if : (m : ℕ) (o : Option MountState) (copies : Numbered CopyState) → Asked copies → Asked (copies_unmounted_if m o copies)
+  unmounted_if : (m : ℕ) (o : Option MountState) (copies : ByNumber CopyState) → Asked copies → Asked (copies_unmounted_if m o copies)
   unmounted_if m None copies each = each
   unmounted_if m (Some x) copies each = unmounted m x.origin copies each
 
-  mounted : (m : ℕ) (o : Origin) (copies : Numbered CopyState) → Asked copies → Asked (copies_mounted m o copies)
+  mounted : (m : ℕ) (o : Origin) (copies : ByNumber CopyState) → Asked copies → Asked (copies_mounted m o copies)
   mounted m (origin.New listed format) copies each = each
   mounted m (origin.Piece b index piece chunk) copies each = changed copies b.0 _ (λ c. refl) each
   mounted m (origin.Chunk b chunk) copies each = each
@@ -129,17 +129,17 @@ module _ (t : DaemonTables) (requests : Numbered OpenRequest) (g : ℕ) where
 
 -- ---- the copies of all groups
 
-module _ (t : DaemonTables) (requests : Numbered OpenRequest) where
-  abbrev AllAsked : Numbered Side → Type 0
+module _ (t : DaemonTables) (requests : ByNumber OpenRequest) where
+  abbrev AllAsked : ByNumber Side → Type 0
   AllAsked sides = EachRow sides (λ g s. EachRow s.copies (CopyIsAsked t requests g))
 
-  all_changed : (f : Side → Side) (groups : List GroupId) (sides : Numbered Side)
+  all_changed : (f : Side → Side) (groups : List GroupId) (sides : ByNumber Side)
       → ((g : ℕ) (s : Side) → EachRow s.copies (CopyIsAsked t requests g) → EachRow (f s).copies (CopyIsAsked t requests g))
       → AllAsked sides → AllAsked (at_each f groups sides)
   all_changed f groups sides keeps each = each_at_each (λ g s. EachRow s.copies (CopyIsAsked t requests g)) f groups sides keeps each
 
 -- the put of each copy is among other requests
-other_requests : (t : DaemonTables) (requests later : Numbered OpenRequest) (sides : Numbered Side)
+other_requests : (t : DaemonTables) (requests later : ByNumber OpenRequest) (sides : ByNumber Side)
     → EachRow sides (λ g s. EachRow s.copies (λ b c. PutOf requests c.request b → PutOf later c.request b))
     → AllAsked t requests sides → AllAsked t later sides
 other_requests t requests later sides stay each = λ g s at b c is.
@@ -165,7 +165,7 @@ EndsSpare d (ending.Reservation g n b) = Unit {0}
 EndsSpare d (ending.Mount g m) = Unit {0}
 EndsSpare d (ending.Move g job source target) = Unit {0}
 
-module _ (t : DaemonTables) (requests : Numbered OpenRequest) (sides : Numbered Side) (k : ℕ) (b : Bfid) (groups : List GroupId)
+module _ (t : DaemonTables) (requests : ByNumber OpenRequest) (sides : ByNumber Side) (k : ℕ) (b : Bfid) (groups : List GroupId)
     (asked : groups ≡ asked_by (map.get t.entries b.0)) (each : AllAsked t requests sides) where
   abbrev Without : Side → Side
   Without = side_after_ending (ending.Put k b groups)
@@ -275,7 +275,7 @@ doubted (Some (payload.Group g r)) j k = record {
 
 -- ---- what is journalled
 
-abbrev pub PaysSpare : DaemonTables → Numbered OpenRequest → Option Payload → Type 0
+abbrev pub PaysSpare : DaemonTables → ByNumber OpenRequest → Option Payload → Type 0
 PaysSpare t requests None = Unit {0}
 PaysSpare t requests (Some (payload.Daemon r)) = StepSpares t requests r.step
 PaysSpare t requests (Some (payload.Group g r)) = Unit {0}
@@ -314,7 +314,7 @@ OpensSpare d (opening.Mount g m vsn epoch made) = Unit {0}
 OpensSpare d (opening.Move g job moving source_epoch target_epoch) = Unit {0}
 OpensSpare d (opening.Reuse g m epoch reusing reading) = Unit {0}
 
-numbers_more : (requests : Numbered OpenRequest) (next k : ℕ) (r : OpenRequest) → next ≤ k → EachRow requests (λ q r. q < next)
+numbers_more : (requests : ByNumber OpenRequest) (next k : ℕ) (r : OpenRequest) → next ≤ k → EachRow requests (λ q r. q < next)
     → EachRow (map.insert requests k r) (λ q r. q < k + 1)
 numbers_more requests next k r new below =
     each-insert numbers (λ q r. q < k + 1) requests k r (omega arith) (λ q s is. let low = below q s is in omega (arith, new, low))
@@ -327,7 +327,7 @@ with_request_copies j k r new standing =
     puts_stay_with j.daemon.requests k r (number_free j.daemon.requests j.daemon.next_request k standing.numbers new) c.request b put) standing.copies
 
 -- the copies that a put asks for, at the groups that it asks
-module _ (t : DaemonTables) (requests : Numbered OpenRequest) (k : ℕ) (r : OpenRequest) (len : ℕ) (groups : List GroupId) (put : is_put r.kind ≡ true)
+module _ (t : DaemonTables) (requests : ByNumber OpenRequest) (k : ℕ) (r : OpenRequest) (len : ℕ) (groups : List GroupId) (put : is_put r.kind ≡ true)
     (here : map.get requests k ≡ Some r) (given : IsGiven t.site t.counter r.bfid.0) (entry : map.get t.entries r.bfid.0 ≡ Some (new_entry len groups)) where
   abbrev Opened : Side → Side
   Opened = side_after_opening (opening.Put k r len groups)
@@ -345,7 +345,7 @@ module _ (t : DaemonTables) (requests : Numbered OpenRequest) (k : ℕ) (r : Ope
   side_opened : (g : ℕ) (s : Side) → NumberAmong g groups → EachRow s.copies (CopyIsAsked t requests g) → EachRow (Opened s).copies (CopyIsAsked t requests g)
   side_opened g s among each = each-insert numbers (CopyIsAsked t requests g) s.copies r.bfid.0 _ (copy_opened g among _ refl) each
 
-  opened_at : (rest : List GroupId) (sides : Numbered Side) → ((g : ℕ) → NumberAmong g rest → NumberAmong g groups) → AllAsked t requests sides
+  opened_at : (rest : List GroupId) (sides : ByNumber Side) → ((g : ℕ) → NumberAmong g rest → NumberAmong g groups) → AllAsked t requests sides
       → AllAsked t requests (at_each Opened rest sides)
   opened_at [] sides within each = each
   opened_at (h ∷ rest) sides within each =
@@ -393,7 +393,7 @@ opened w (opening.Reuse g m epoch x reading) j spares k = record {
 -- ---- a step in doubt
 
 -- with fewer requests a step still spares what it spared
-spares_without : (t : DaemonTables) (requests : Numbered OpenRequest) (k : ℕ) (s : DaemonStep) → StepSpares t requests s
+spares_without : (t : DaemonTables) (requests : ByNumber OpenRequest) (k : ℕ) (s : DaemonStep) → StepSpares t requests s
     → StepSpares t (map.remove requests k) s
 spares_without t requests k (Write path change bytes) spares = tt
 spares_without t requests k (Remove path change) spares = tt

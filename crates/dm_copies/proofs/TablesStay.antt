@@ -22,7 +22,7 @@ use Rattle.dm_durable.specs.DaemonJournal.{IsGiven}
 use Rattle.dm_durable.specs.Dumps.{file_in}
 use Rattle.dm_durable.specs.Inodes.{bytes_online}
 use Rattle.dm_durable.specs.Entries.{new_entry}
-use Rattle.dm_durable.specs.Tables.{Numbered}
+use Rattle.dm_durable.specs.Tables.{ByNumber}
 use Rattle.dm_model.specs.declared.state.CopyState.{CopyState}
 use Rattle.dm_model.specs.declared.state.Daemon.{Daemon}
 use Rattle.dm_model.specs.declared.state.History.{History}
@@ -72,7 +72,7 @@ module _ (t : DaemonTables) where
   restored_on target change None = onward_same t (after_restore t target change None) refl refl
   restored_on target change (Some file) = onward_same t (after_restore t target change (Some file)) refl refl
 
-  pub step_on : (requests : Numbered OpenRequest) (s : DaemonStep) → StepSpares t requests s → Onward t (after_step t s)
+  pub step_on : (requests : ByNumber OpenRequest) (s : DaemonStep) → StepSpares t requests s → Onward t (after_step t s)
   step_on requests (Write path change bytes) spares = onward_same t _ refl refl
   step_on requests (Remove path change) spares = removed_on path change (map.get t.names path)
   step_on requests (BeginPut path b groups) spares = begun_at_on b groups (map.get t.names path) spares.1
@@ -90,7 +90,7 @@ module _ (t : DaemonTables) where
 
 -- ---- copies
 
-module _ (t : DaemonTables) (requests : Numbered OpenRequest) (g b : ℕ) (c : CopyState) (kept : CopyIsAsked t requests g b c) where
+module _ (t : DaemonTables) (requests : ByNumber OpenRequest) (g b : ℕ) (c : CopyState) (kept : CopyIsAsked t requests g b c) where
   -- such a step spares the copy's entry
   spared : (s : DaemonStep) → StepSpares t requests s → Spared b s
   spared (Write path change bytes) spares = tt
@@ -112,7 +112,7 @@ module _ (t : DaemonTables) (requests : Numbered OpenRequest) (g b : ℕ) (c : C
   spared (Age age) spares = tt
 
 -- the time of a record is no matter
-later_spares : (t : DaemonTables) (time : Secs) (requests : Numbered OpenRequest) (s : DaemonStep) → StepSpares t requests s
+later_spares : (t : DaemonTables) (time : Secs) (requests : ByNumber OpenRequest) (s : DaemonStep) → StepSpares t requests s
     → StepSpares (record t { time = time }) requests s
 later_spares t time requests (Write path change bytes) spares = tt
 later_spares t time requests (Remove path change) spares = tt
@@ -156,7 +156,7 @@ copy_paid d r g b c spares kept =
 -- ---- contents
 
 -- a new content is of no bitfile that had one
-content_beside : (contents : Numbered (List ℕ)) (b q : ℕ) (o : Option File) (bytes : List ℕ) → q ≢ b → map.get contents q ≡ Some bytes
+content_beside : (contents : ByNumber (List ℕ)) (b q : ℕ) (o : Option File) (bytes : List ℕ) → q ≢ b → map.get contents q ≡ Some bytes
     → map.get (contents_with b o contents) q ≡ Some bytes
 content_beside contents b q None bytes differ is = is
 content_beside contents b q (Some f) bytes differ is = get-beside numbers contents b (bytes_online f.inode.contents) q differ ∙ is
@@ -182,8 +182,8 @@ module _ (d : Daemon) (h : History) (given : EachRow h.contents (λ b bytes. IsG
   contents_stay Restart spares = λ q bytes is. is
   contents_stay (Age age) spares = λ q bytes is. is
 
-module _ (t : DaemonTables) (contents : Numbered (List ℕ)) (given : EachRow contents (λ b bytes. IsGiven t.site t.counter b)) where
-  abbrev Given : DaemonTables → Numbered (List ℕ) → Type 0
+module _ (t : DaemonTables) (contents : ByNumber (List ℕ)) (given : EachRow contents (λ b bytes. IsGiven t.site t.counter b)) where
+  abbrev Given : DaemonTables → ByNumber (List ℕ) → Type 0
   Given u c = EachRow c (λ b bytes. IsGiven u.site u.counter b)
 
   still_given : (u : DaemonTables) → Onward t u → Given u contents

@@ -13,7 +13,7 @@ use Rattle.dm_durable.specs.declared.daemon.Entry.{Entry}
 use Rattle.dm_durable.specs.Daemon.{bfid_of}
 use Rattle.dm_durable.specs.DaemonJournal.{IsGiven}
 use Rattle.dm_durable.specs.Entries.{asks}
-use Rattle.dm_durable.specs.Tables.{Numbered}
+use Rattle.dm_durable.specs.Tables.{ByNumber}
 use Rattle.dm_model.specs.declared.state.CopyState.{CopyState}
 use Rattle.dm_model.specs.declared.state.Joint.{Joint}
 use Rattle.dm_model.specs.declared.state.OpenRequest.{OpenRequest}
@@ -22,7 +22,7 @@ use Rattle.dm_invariant.specs.Doubts.{NoRequestOf}
 use Rattle.dm_invariant.specs.Reservations.{PutOf}
 
 -- a copy is of a bitfile that was given, whose put is open, and whose entry asks the group and isn't being dropped
-pub record CopyIsAsked (t : DaemonTables) (requests : Numbered OpenRequest) (g b : ℕ) (c : CopyState) : Type 0 where
+pub record CopyIsAsked (t : DaemonTables) (requests : ByNumber OpenRequest) (g b : ℕ) (c : CopyState) : Type 0 where
   pub given : IsGiven t.site t.counter b
   pub entry : Entry
   pub is : map.get t.entries b ≡ Some entry
@@ -32,7 +32,7 @@ pub record CopyIsAsked (t : DaemonTables) (requests : Numbered OpenRequest) (g b
 
 -- a step begins the put of the next bitfile, takes none on which a request is open, and drops an entry only where it is being
 -- dropped. A restart is never in doubt
-abbrev pub StepSpares : DaemonTables → Numbered OpenRequest → DaemonStep → Type 0
+abbrev pub StepSpares : DaemonTables → ByNumber OpenRequest → DaemonStep → Type 0
 StepSpares t requests (Write path change bytes) = Unit {0}
 StepSpares t requests (Remove path change) = Unit {0}
 StepSpares t requests (BeginPut path b groups) = (b.0 ≡ bfid_of t.site t.counter) × (t.counter ≤ number_limit)
@@ -48,7 +48,7 @@ StepSpares t requests (Dropped b) = (e : Entry) → map.get t.entries b.0 ≡ So
 StepSpares t requests Restart = ⊥
 StepSpares t requests (Age age) = Unit {0}
 
-abbrev pub DoubtSpares : DaemonTables → Numbered OpenRequest → Option DaemonRecord → Type 0
+abbrev pub DoubtSpares : DaemonTables → ByNumber OpenRequest → Option DaemonRecord → Type 0
 DoubtSpares t requests None = Unit {0}
 DoubtSpares t requests (Some r) = StepSpares t requests r.step
 

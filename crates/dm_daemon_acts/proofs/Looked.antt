@@ -11,7 +11,7 @@ use Rattle.dm_durable.specs.declared.daemon.Contents.{Contents}
 use Rattle.dm_durable.specs.declared.daemon.Contents.TheVariants.{Regular, Making, Dual, Offline}
 use Rattle.dm_durable.specs.declared.daemon.Inode.{Inode}
 use Rattle.dm_durable.specs.DaemonConditions.{MayBeMade, OneOrTwo}
-use Rattle.dm_durable.specs.Tables.{Named, Numbered}
+use Rattle.dm_durable.specs.Tables.{ByName, ByNumber}
 use Rattle.dm_model.specs.declared.state.OpenRequest.{OpenRequest}
 use Rattle.dm_model.specs.DaemonCalls.{are_one_or_two, changed_in}
 use Rattle.dm_model.specs.Files.{File, file_named, file_of, has_open_put, has_open_recall, is_dual, is_regular, state_of}
@@ -44,24 +44,24 @@ unchanged r none =
     ] none
 
 -- a file of a path: its name, and its inode
-pub record FileThere (names : Named Ino) (inodes : Numbered Inode) (path : List ℕ) (f : File) : Type 0 where
+pub record FileThere (names : ByName Ino) (inodes : ByNumber Inode) (path : List ℕ) (f : File) : Type 0 where
   pub n : Ino
   pub name : map.get names path ≡ Some n
   pub is : map.get inodes n.0 ≡ Some f.inode
 
-file_in_row : (names : Named Ino) (inodes : Numbered Inode) (path : List ℕ) (f : File) (n : Ino) (r : Option Inode) → map.get names path ≡ Some n
+file_in_row : (names : ByName Ino) (inodes : ByNumber Inode) (path : List ℕ) (f : File) (n : Ino) (r : Option Inode) → map.get names path ≡ Some n
     → map.get inodes n.0 ≡ r → file_of n.0 r ≡ Some f → FileThere names inodes path f
 file_in_row names inodes path f n None name is e = cc
 file_in_row names inodes path f n (Some i) name is e =
     let same = same_Some (record { number = n.0; inode = i }) f e in
     record { n = n; name = name; is = is ∙ ap (λ x. Some x.inode) same }
 
-file_by_name : (names : Named Ino) (inodes : Numbered Inode) (path : List ℕ) (f : File) (o : Option Ino) → map.get names path ≡ o
+file_by_name : (names : ByName Ino) (inodes : ByNumber Inode) (path : List ℕ) (f : File) (o : Option Ino) → map.get names path ≡ o
     → file_named inodes o ≡ Some f → FileThere names inodes path f
 file_by_name names inodes path f None name e = cc
 file_by_name names inodes path f (Some n) name e = file_in_row names inodes path f n (map.get inodes n.0) name refl e
 
-pub file_there : (names : Named Ino) (inodes : Numbered Inode) (path : List ℕ) (f : File) → file_named inodes (map.get names path) ≡ Some f
+pub file_there : (names : ByName Ino) (inodes : ByNumber Inode) (path : List ℕ) (f : File) → file_named inodes (map.get names path) ≡ Some f
     → FileThere names inodes path f
 file_there names inodes path f e = file_by_name names inodes path f (map.get names path) refl e
 
@@ -80,14 +80,14 @@ making_not_dual true e = cc
 making_not_dual false e = cc
 
 -- a put of a file that is regular may begin
-pub may_be_made : (requests : Numbered OpenRequest) (n : ℕ) (c : Contents) → is_regular (state_of requests n c) ≡ true → MayBeMade c
+pub may_be_made : (requests : ByNumber OpenRequest) (n : ℕ) (c : Contents) → is_regular (state_of requests n c) ≡ true → MayBeMade c
 may_be_made requests n (Regular bytes) e = tt
 may_be_made requests n (Making bytes b) e = tt
 may_be_made requests n (Dual bytes b) e = cc
 may_be_made requests n (Offline len b) e = never_regular (has_open_recall requests n) e
 
 -- a dual-state file has its bytes and names its bitfile
-pub dual_form : (requests : Numbered OpenRequest) (n : ℕ) (c : Contents) → is_dual (state_of requests n c) ≡ true
+pub dual_form : (requests : ByNumber OpenRequest) (n : ℕ) (c : Contents) → is_dual (state_of requests n c) ≡ true
     → (bytes : List ℕ) × (b : Bfid) × (c ≡ Dual bytes b)
 dual_form requests n (Regular bytes) e = cc
 dual_form requests n (Making bytes b) e = absurd (making_not_dual (has_open_put requests b.0) e)

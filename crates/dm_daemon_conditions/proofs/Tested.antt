@@ -20,7 +20,7 @@ use Rattle.dm_durable.specs.declared.daemon.DaemonTables.{DaemonTables}
 use Rattle.dm_durable.specs.declared.daemon.DaemonStep.{DaemonStep}
 use Rattle.dm_durable.specs.declared.daemon.DaemonStep.TheVariants.{Write, Remove, BeginPut, Stored, EndPut, Release, Taken, Dump, Undump, Restore, HardDelete, Dropped, Restart, Age}
 use Rattle.dm_durable.specs.declared.daemon.DaemonRecord.{DaemonRecord}
-use Rattle.dm_durable.specs.Tables.{Numbered}
+use Rattle.dm_durable.specs.Tables.{ByNumber}
 use Rattle.dm_durable.specs.Limits.{IsGroupNumber, AreGroups}
 use Rattle.dm_durable.specs.Entries.{asks, has_stored, is_stored, is_complete, is_due}
 use Rattle.dm_durable.specs.Dumps.{is_young}
@@ -49,7 +49,7 @@ remove t path change =
 -- ---- puts and recalls
 
 -- a name leads to an inode of which P holds
-record Leads (P : Inode → Type 0) (inodes : Numbered Inode) (o : Option Ino) : Type 0 where
+record Leads (P : Inode → Type 0) (inodes : ByNumber Inode) (o : Option Ino) : Type 0 where
   n : Ino
   name : o ≡ Some n
   inode : Inode
@@ -73,7 +73,7 @@ found {X} P b test none some each (Some x) = (
     of_some : (x y : X) → Some x ≡ Some y → x ≡ y
     of_some x y e = cc
 
-leads : (P : Inode → Type 0) (inodes : Numbered Inode) (o : Option Ino) → Finds P (test.inode_named inodes o) ↔ Leads P inodes o
+leads : (P : Inode → Type 0) (inodes : ByNumber Inode) (o : Option Ino) → Finds P (test.inode_named inodes o) ↔ Leads P inodes o
 leads P inodes None = (λ f. let e = f.is in cc, λ l. let e = l.name in cc)
 leads P inodes (Some n) = (
   λ f. record { n = n; name = refl; inode = f.row; is = f.is; holds = f.holds },
@@ -198,17 +198,17 @@ dump t name =
     other_fact (both_tests _ _ (none_test (map.get t.dumps name)) (less_test (map.len t.dumps) dumps_limit))
     (λ h. record { new = h.0; room = h.1 }, λ m. (m.new, m.room))
 
-complete : (entries : Numbered Entry) (b : ℕ) → IsTrue (test.is_complete_if (map.get entries b)) ↔ HasComplete entries b
+complete : (entries : ByNumber Entry) (b : ℕ) → IsTrue (test.is_complete_if (map.get entries b)) ↔ HasComplete entries b
 complete entries b =
     other_fact (found (λ e. is_complete e ≡ true) is_complete test.is_complete_if refl (λ e. refl) (λ e. (λ h. h, λ h. h)) (map.get entries b))
     (λ f. record { entry = f.row; is = f.is; complete = f.holds }, λ m. record { row = m.entry; is = m.is; holds = m.complete })
 
-there : (entries : Numbered Entry) (f : DumpInode) → IsTrue (test.is_there entries f) ↔ IsThere entries f
+there : (entries : ByNumber Entry) (f : DumpInode) → IsTrue (test.is_there entries f) ↔ IsThere entries f
 there entries (Kept bytes) = (λ h. tt, λ h. refl)
 there entries (NamedFile len b) = complete entries b.0
 
 -- a young dump that has the file
-young_file : (entries : Numbered Entry) (now : ℕ) (path : List ℕ) (d : DumpRow)
+young_file : (entries : ByNumber Entry) (now : ℕ) (path : List ℕ) (d : DumpRow)
     → IsTrue (is_young now d && test.is_there_if entries (map.get d.files path)) ↔ ((is_young now d ≡ true) × Finds (IsThere entries) (map.get d.files path))
 young_file entries now path d =
     both_tests (is_young now d) _ (λ h. h, λ h. h)

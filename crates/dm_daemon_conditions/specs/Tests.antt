@@ -18,7 +18,7 @@ use Rattle.dm_durable.specs.declared.daemon.DaemonTables.{DaemonTables}
 use Rattle.dm_durable.specs.declared.daemon.DaemonStep.{DaemonStep}
 use Rattle.dm_durable.specs.declared.daemon.DaemonStep.TheVariants.{Write, Remove, BeginPut, Stored, EndPut, Release, Taken, Dump, Undump, Restore, HardDelete, Dropped, Restart, Age}
 use Rattle.dm_durable.specs.declared.daemon.DaemonRecord.{DaemonRecord}
-use Rattle.dm_durable.specs.Tables.{Numbered}
+use Rattle.dm_durable.specs.Tables.{ByNumber}
 use Rattle.dm_durable.specs.Inodes.{has_making}
 use Rattle.dm_durable.specs.Entries.{asks, has_stored, is_stored, is_complete, is_due}
 use Rattle.dm_durable.specs.Dumps.{is_young}
@@ -59,7 +59,7 @@ are_groups [] = true
 are_groups (g ∷ groups) = is_group g && are_groups groups
 
 -- the inode that a name leads to, if it leads to one
-abbrev pub inode_named : Numbered Inode → Option Ino → Option Inode
+abbrev pub inode_named : ByNumber Inode → Option Ino → Option Inode
 inode_named inodes None = None
 inode_named inodes (Some n) = map.get inodes n.0
 
@@ -124,16 +124,16 @@ abbrev pub is_complete_if : Option Entry → Bool
 is_complete_if None = false
 is_complete_if (Some e) = is_complete e
 
-abbrev pub is_there : Numbered Entry → DumpInode → Bool
+abbrev pub is_there : ByNumber Entry → DumpInode → Bool
 is_there entries (Kept bytes) = true
 is_there entries (NamedFile len b) = is_complete_if (map.get entries b.0)
 
-abbrev pub is_there_if : Numbered Entry → Option DumpInode → Bool
+abbrev pub is_there_if : ByNumber Entry → Option DumpInode → Bool
 is_there_if entries None = false
 is_there_if entries (Some f) = is_there entries f
 
 -- whether a file of the dump may be restored at the time `now`
-abbrev pub has_young : Numbered Entry → ℕ → List ℕ → Option DumpRow → Bool
+abbrev pub has_young : ByNumber Entry → ℕ → List ℕ → Option DumpRow → Bool
 has_young entries now path None = false
 has_young entries now path (Some d) = is_young now d && is_there_if entries (map.get d.files path)
 

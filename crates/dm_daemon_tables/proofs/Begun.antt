@@ -6,7 +6,7 @@ use Rattle.dm_base.specs.declared.identifier.GroupId.{GroupId}
 use Rattle.dm_durable.specs.declared.daemon.DaemonTables.{DaemonTables}
 use Rattle.dm_durable.specs.declared.daemon.Entry.{Entry}
 use Rattle.dm_durable.specs.declared.daemon.Inode.{Inode}
-use Rattle.dm_durable.specs.Tables.{Numbered}
+use Rattle.dm_durable.specs.Tables.{ByNumber}
 use Rattle.dm_durable.specs.Inodes.{as_making, bytes_online, bitfile_of, bitfile_in, with_contents}
 use Rattle.dm_durable.specs.Entries.{new_entry, after_letting_go_if}
 use Rattle.dm_durable.specs.Daemon.{after_begin_put}
@@ -14,7 +14,7 @@ use Rattle.dm_rules.specs.Numbers.{as_word}
 use Rattle.dm_tables.specs.Rows.{adjust}
 use Rattle.dm_tables.proofs.Adjusted.{adjust-there}
 
-pub begun : (t : DaemonTables) (b : Bfid) (groups : List GroupId) (n : ℕ) (i : Inode) (counter key : ℕ) (inodes : Numbered Inode) (left entries : Numbered Entry) (named : Option ℕ) (entry : Entry)
+pub begun : (t : DaemonTables) (b : Bfid) (groups : List GroupId) (n : ℕ) (i : Inode) (counter key : ℕ) (inodes : ByNumber Inode) (left entries : ByNumber Entry) (named : Option ℕ) (entry : Entry)
     → Some i ≡ get t.inodes n
     → counter ≡ as_word (t.counter + 1)
     → inodes ≡ adjust t.inodes n (with_contents (as_making b))

@@ -11,7 +11,7 @@ use Rattle.dm_durable.specs.declared.daemon.Contents.{Contents}
 use Rattle.dm_durable.specs.declared.daemon.Contents.TheVariants.{Regular, Making, Dual, Offline}
 use Rattle.dm_durable.specs.declared.daemon.Entry.{Entry}
 use Rattle.dm_durable.specs.declared.daemon.Inode.{Inode}
-use Rattle.dm_durable.specs.Tables.{Numbered}
+use Rattle.dm_durable.specs.Tables.{ByNumber}
 use Rattle.dm_durable.specs.Inodes.{as_ended, bitfile_of, bitfile_made, is_bitfile, is_made, is_named, with_contents}
 use Rattle.dm_durable.specs.Entries.{with_deletion_time, after_letting_go_if}
 use Rattle.dm_durable.specs.Daemon.{after_ending_puts}
@@ -67,7 +67,7 @@ abbrev ended_if : Bool → Inode → Inode
 ended_if b i = cond b (ended i) i
 
 -- those of these entries
-abbrev pub ended_of : List (ℕ × Inode) → Numbered Inode → Numbered Inode
+abbrev pub ended_of : List (ℕ × Inode) → ByNumber Inode → ByNumber Inode
 ended_of es inodes = map_values (λ q i. ended_if (in_keys q es) i) inodes
 
 in_more : (q : ℕ) (es : List (ℕ × Inode)) (e : ℕ × Inode) → in_keys q (es ++ e ∷ []) ≡ (in_keys q es || nat_eq e.0 q)
@@ -95,7 +95,7 @@ again b None = refl
 again true (Some i) = ap (λ j. Some j) (ended_twice i.change i.contents)
 again false (Some i) = refl
 
-one_more : (inodes : Numbered Inode) (es : List (ℕ × Inode)) (e : ℕ × Inode) → adjust (ended_of es inodes) e.0 ended ≡ ended_of (es ++ e ∷ []) inodes
+one_more : (inodes : ByNumber Inode) (es : List (ℕ × Inode)) (e : ℕ × Inode) → adjust (ended_of es inodes) e.0 ended ≡ ended_of (es ++ e ∷ []) inodes
 one_more inodes es e = same_rows numbers _ _ (λ q. at q (same_or numbers e.0 q))
   where
     at : (q : ℕ) → (q ≡ e.0) ⊎ (q ≢ e.0) → get (adjust (ended_of es inodes) e.0 ended) q ≡ get (ended_of (es ++ e ∷ []) inodes) q
@@ -117,7 +117,7 @@ unended : (r : Option Inode) → r ≡ option_map (ended_if false) r
 unended None = refl
 unended (Some i) = refl
 
-pub none_ended : (inodes : Numbered Inode) → inodes ≡ ended_of [] inodes
+pub none_ended : (inodes : ByNumber Inode) → inodes ≡ ended_of [] inodes
 none_ended inodes = same_rows numbers _ _ (λ q. unended (get inodes q) ∙ sym (get-mapped numbers (λ k i. ended_if (in_keys k []) i) inodes q))
 
 found_in : (q : ℕ) (es : List (ℕ × Inode)) (i : Inode) → find nat_cmp q es ≡ Some i → in_keys q es ≡ true
@@ -128,7 +128,7 @@ found_in q (d ∷ es) i e =
       | false ↦ λ _ rest. or_true (nat_eq d.0 q) (in_keys q es) (found_in q es i rest)
     ] refl e
 
-pub all_ended : (inodes : Numbered Inode) → ended_of (entries inodes) inodes ≡ map_values (λ n i. with_contents (as_ended false) i) inodes
+pub all_ended : (inodes : ByNumber Inode) → ended_of (entries inodes) inodes ≡ map_values (λ n i. with_contents (as_ended false) i) inodes
 all_ended inodes = same_rows numbers _ _ (λ q.
     get-mapped numbers (λ k i. ended_if (in_keys k (entries inodes)) i) inodes q
     ∙ each q (get inodes q) refl
@@ -143,14 +143,14 @@ changed_map : {K X Y : Type 0} (f : K → X → Y) (es : List (K × X)) → chan
 changed_map f [] = refl
 changed_map f (e ∷ es) = ap ((e.0, f e.0 e.1) ∷◌) (changed_map f es)
 
-at_place : (inodes : Numbered Inode) (es : List (ℕ × Inode)) (k : ℕ) (e : ℕ × Inode) → slice_get (entries inodes) k ≡ Some e
+at_place : (inodes : ByNumber Inode) (es : List (ℕ × Inode)) (k : ℕ) (e : ℕ × Inode) → slice_get (entries inodes) k ≡ Some e
     → slice_get (entries (ended_of es inodes)) k ≡ Some (e.0, ended_if (in_keys e.0 es) e.1)
 at_place inodes es k e there =
     ap (λ l. slice_get l k) (entries-mapped numbers (λ q i. ended_if (in_keys q es) i) inodes ∙ changed_map (λ q i. ended_if (in_keys q es) i) (entries inodes))
     ∙ slice_get-map (λ d. (d.0, ended_if (in_keys d.0 es) d.1)) (entries inodes) k
     ∙ ap (option_map (λ d. (d.0, ended_if (in_keys d.0 es) d.1))) there
 
-listed : (m : Numbered Inode) (es : List (ℕ × Inode)) (k : ℕ) (e : ℕ × Inode) → AllByRecursion (λ d. get m d.0 ≡ Some d.1) es → slice_get es k ≡ Some e → get m e.0 ≡ Some e.1
+listed : (m : ByNumber Inode) (es : List (ℕ × Inode)) (k : ℕ) (e : ℕ × Inode) → AllByRecursion (λ d. get m d.0 ≡ Some d.1) es → slice_get es k ≡ Some e → get m e.0 ≡ Some e.1
 listed m [] k e all there = let small = slice_get_within [] k e there in absurd (omega arith)
 listed m (d ∷ es) zero e all there = let same : d ≡ e = some_same there in subst (λ x. get m x.0 ≡ Some x.1) same all.0
   where
@@ -166,7 +166,7 @@ take_on l k x there = take_more l k x (slice_get_within l k x there) ∙ ap (λ 
 some_same : {X : Type 0} {x y : X} → Some x ≡ Some y → x ≡ y
 some_same h = cc
 
-is_made_named : (inodes : Numbered Inode) (q : ℕ) → is_made inodes q ≡ true → is_named inodes q ≡ true
+is_made_named : (inodes : ByNumber Inode) (q : ℕ) → is_made inodes q ≡ true → is_named inodes q ≡ true
 is_made_named inodes q e =
     let row = any-true (λ n i. is_bitfile q (bitfile_made i.contents)) inodes e in
     any-some numbers (λ n i. is_bitfile q (bitfile_of i.contents)) inodes row.0 row.1 row.2 (names row.1.contents (bitfile_made row.1.contents) refl row.3)
@@ -176,8 +176,8 @@ is_made_named inodes q e =
     names c (Some b) e h = ap (is_bitfile q) (made_named c b e) ∙ h
 
 -- an inode that named b names nothing any more: other bitfiles are named as before
-module _ (inodes : Numbered Inode) (n : ℕ) (x : Inode) (b : ℕ) (there : get inodes n ≡ Some x) (made : bitfile_made x.contents ≡ Some b) where
-  after_it : Numbered Inode
+module _ (inodes : ByNumber Inode) (n : ℕ) (x : Inode) (b : ℕ) (there : get inodes n ≡ Some x) (made : bitfile_made x.contents ≡ Some b) where
+  after_it : ByNumber Inode
   after_it = adjust inodes n ended
 
   still : (q : ℕ) → is_named (adjust inodes n ended) q ≡ true → is_named inodes q ≡ true
@@ -222,18 +222,18 @@ module _ (inodes : Numbered Inode) (n : ℕ) (x : Inode) (b : ℕ) (there : get 
 abbrev deleted_if : ℕ → Bool → Entry → Entry
 deleted_if time t e = cond t (with_deletion_time time e) e
 
-abbrev lets_go : Numbered Inode → Numbered Inode → ℕ → Bool
+abbrev lets_go : ByNumber Inode → ByNumber Inode → ℕ → Bool
 lets_go before inodes q = is_made before q && not (is_named inodes q)
 
 undeleted : (time : ℕ) (r : Option Entry) → r ≡ option_map (deleted_if time false) r
 undeleted time None = refl
 undeleted time (Some e) = refl
 
-none_lets_go : (inodes : Numbered Inode) (q : ℕ) (t : Bool) → is_made inodes q ≡ t → lets_go inodes inodes q ≡ false
+none_lets_go : (inodes : ByNumber Inode) (q : ℕ) (t : Bool) → is_made inodes q ≡ t → lets_go inodes inodes q ≡ false
 none_lets_go inodes q true e = ap (λ m. m && not (is_named inodes q)) e ∙ ap not (is_made_named inodes q e)
 none_lets_go inodes q false e = ap (λ m. m && not (is_named inodes q)) e
 
-pub none_deleted : (es : Numbered Entry) (inodes : Numbered Inode) (time : ℕ) → es ≡ after_ending_puts es inodes inodes time
+pub none_deleted : (es : ByNumber Entry) (inodes : ByNumber Inode) (time : ℕ) → es ≡ after_ending_puts es inodes inodes time
 none_deleted es inodes time = same_rows numbers _ _ (λ q.
     undeleted time (get es q)
     ∙ ap (λ t. option_map (deleted_if time t) (get es q)) (sym (none_lets_go inodes q (is_made inodes q) refl))
@@ -243,7 +243,7 @@ deleted_now : (time : ℕ) (r : Option Entry) → option_map (with_deletion_time
 deleted_now time None = refl
 deleted_now time (Some e) = refl
 
-module _ (es : Numbered Entry) (before inodes : Numbered Inode) (time n b : ℕ) (x : Inode) (there : get inodes n ≡ Some x) (made : bitfile_made x.contents ≡ Some b) (was : is_made before b ≡ true) where
+module _ (es : ByNumber Entry) (before inodes : ByNumber Inode) (time n b : ℕ) (x : Inode) (there : get inodes n ≡ Some x) (made : bitfile_made x.contents ≡ Some b) (was : is_made before b ≡ true) where
   kept : is_named (adjust inodes n ended) b ≡ true → (q : ℕ) → (q ≡ b) ⊎ (q ≢ b) → lets_go before inodes q ≡ lets_go before (adjust inodes n ended) q
   kept named q (inl same) =
       ap (lets_go before inodes) same
@@ -285,7 +285,7 @@ module _ (es : Numbered Entry) (before inodes : Numbered Inode) (time n b : ℕ)
 -- ---- a step of the loop
 
 -- the inode at a place was that of before, if its put has not ended
-made_before : (before : Numbered Inode) (es : List (ℕ × Inode)) (e : ℕ × Inode) (b : ℕ) (t : Bool) → in_keys e.0 es ≡ t → get before e.0 ≡ Some e.1
+made_before : (before : ByNumber Inode) (es : List (ℕ × Inode)) (e : ℕ × Inode) (b : ℕ) (t : Bool) → in_keys e.0 es ≡ t → get before e.0 ≡ Some e.1
     → bitfile_made (ended_if (in_keys e.0 es) e.1).contents ≡ Some b → is_made before b ≡ true
 made_before before es e b true is there made =
     let gone : bitfile_made (ended_if (in_keys e.0 es) e.1).contents ≡ None = ap (λ t. bitfile_made (ended_if t e.1).contents) is ∙ ended_unmade e.1.contents in
@@ -295,14 +295,14 @@ made_before before es e b false is there made =
     any-some numbers (λ n i. is_bitfile b (bitfile_made i.contents)) before e.0 e.1 there (ap (is_bitfile b) now ∙ eq-eqb b b refl)
 
 -- what ended so far, and what was let go
-pub record Ending (at time : ℕ) (before inodes : Numbered Inode) (first es : Numbered Entry) : Type 0 where
+pub record Ending (at time : ℕ) (before inodes : ByNumber Inode) (first es : ByNumber Entry) : Type 0 where
   pub inodes_are : inodes ≡ ended_of (take at (entries before)) before
   pub entries_are : es ≡ after_ending_puts first before inodes time
 
-pub ending_begun : (time : ℕ) (before : Numbered Inode) (first : Numbered Entry) → Ending 0 time before before first first
+pub ending_begun : (time : ℕ) (before : ByNumber Inode) (first : ByNumber Entry) → Ending 0 time before before first first
 ending_begun time before first = record { inodes_are = none_ended before; entries_are = none_deleted first before time }
 
-entry_goes : (first : Numbered Entry) (before inodes : Numbered Inode) (time n : ℕ) (x : Inode) (o : Option ℕ) → get inodes n ≡ Some x → bitfile_made x.contents ≡ o
+entry_goes : (first : ByNumber Entry) (before inodes : ByNumber Inode) (time n : ℕ) (x : Inode) (o : Option ℕ) → get inodes n ≡ Some x → bitfile_made x.contents ≡ o
     → ((b : ℕ) → o ≡ Some b → is_made before b ≡ true)
     → after_letting_go_if (after_ending_puts first before inodes time) (adjust inodes n ended) time o ≡ after_ending_puts first before (adjust inodes n ended) time
 entry_goes first before inodes time n x None there made was =
@@ -312,7 +312,7 @@ entry_goes first before inodes time n x None there made was =
 entry_goes first before inodes time n x (Some b) there made was =
     it_goes first before inodes time n b x there made (was b refl) (is_named (adjust inodes n ended) b) refl
 
-step_at : (at time : ℕ) (before inodes after : Numbered Inode) (first es left : Numbered Entry) (named : Option ℕ) (e : ℕ × Inode)
+step_at : (at time : ℕ) (before inodes after : ByNumber Inode) (first es left : ByNumber Entry) (named : Option ℕ) (e : ℕ × Inode)
     → slice_get (entries before) at ≡ Some e
     → Ending at time before inodes first es
     → named ≡ made_at (slice_get (entries inodes) at)
@@ -337,7 +337,7 @@ step_at at time before inodes after first es left named e there so_far names cha
           ∙ ap (λ m. after_ending_puts first before m time) (sym new);
     }
 
-pub ending_on : (at time : ℕ) (before inodes after : Numbered Inode) (first es left : Numbered Entry) (named : Option ℕ)
+pub ending_on : (at time : ℕ) (before inodes after : ByNumber Inode) (first es left : ByNumber Entry) (named : Option ℕ)
     → at < len before
     → Ending at time before inodes first es
     → named ≡ made_at (slice_get (entries inodes) at)
@@ -353,7 +353,7 @@ ending_on at time before inodes after first es left named small so_far names cha
     there (d ∷ l) zero h = (d, refl)
     there (d ∷ l) (suc k) h = there l k (omega arith)
 
-pub ending_end : (at time : ℕ) (before inodes : Numbered Inode) (first es : Numbered Entry) → len before ≤ at → Ending at time before inodes first es
+pub ending_end : (at time : ℕ) (before inodes : ByNumber Inode) (first es : ByNumber Entry) → len before ≤ at → Ending at time before inodes first es
     → inodes ≡ map_values (λ n i. with_contents (as_ended false) i) before
 ending_end at time before inodes first es past so_far =
     so_far.inodes_are

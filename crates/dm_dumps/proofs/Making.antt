@@ -7,7 +7,7 @@ use Rattle.dm_base.specs.declared.identifier.Ino.{Ino}
 use Rattle.dm_durable.specs.declared.daemon.DumpInode.{DumpInode}
 use Rattle.dm_durable.specs.declared.daemon.Inode.{Inode}
 use Rattle.dm_durable.specs.Dumps.{file_dumped_if, files_dumped}
-use Rattle.dm_durable.specs.Tables.{Named, Numbered}
+use Rattle.dm_durable.specs.Tables.{ByName, ByNumber}
 use Rattle.dm_tables.specs.Rows.{changed, map_values}
 use Rattle.dm_tables.proofs.Orders.{paths}
 use Rattle.dm_tables.proofs.Entries.{entries-mapped}
@@ -28,33 +28,33 @@ drop_none (x ∷ l) i e = drop_all i (x ∷ l) (past (x ∷ l) x i e)
         not_less h = omega (arith, h)
 
 -- the file that a name stands for
-abbrev pub dumped_at : Numbered Inode → List ℕ → Ino → DumpInode
+abbrev pub dumped_at : ByNumber Inode → List ℕ → Ino → DumpInode
 dumped_at inodes path n = file_dumped_if (get inodes n.0)
 
 -- the files so far, with those that are left put in, are all
-abbrev pub Dumping : ℕ → Named DumpInode → Named Ino → Numbered Inode → Type 0
+abbrev pub Dumping : ℕ → ByName DumpInode → ByName Ino → ByNumber Inode → Type 0
 Dumping at files names inodes = poured (changed (dumped_at inodes) (drop at (entries names))) files ≡ files_dumped names inodes
 
-pub dumping_begun : (files : Named DumpInode) (names : Named Ino) (inodes : Numbered Inode) → files ≡ empty → Dumping 0 files names inodes
+pub dumping_begun : (files : ByName DumpInode) (names : ByName Ino) (inodes : ByNumber Inode) → files ≡ empty → Dumping 0 files names inodes
 dumping_begun files names inodes none =
     ap (poured (changed (dumped_at inodes) (entries names))) none
     ∙ ap (λ (l : List (List ℕ × DumpInode)). poured l empty) (sym (entries-mapped paths (dumped_at inodes) names))
     ∙ poured-empty paths (map_values (dumped_at inodes) names)
 
-pub dumping_on : (at : ℕ) (files more : Named DumpInode) (names : Named Ino) (inodes : Numbered Inode) (path : List ℕ) (n : Ino) (file : DumpInode)
+pub dumping_on : (at : ℕ) (files more : ByName DumpInode) (names : ByName Ino) (inodes : ByNumber Inode) (path : List ℕ) (n : Ino) (file : DumpInode)
     → slice_get (entries names) at ≡ Some (path, n) → file ≡ dumped_at inodes path n → more ≡ insert files path file
     → Dumping at files names inodes → Dumping (at + 1) more names inodes
 dumping_on at files more names inodes path n file there is put so_far =
     poured_on (changed (dumped_at inodes) (drop at (entries names))) (changed (dumped_at inodes) (drop (at + 1) (entries names))) files more path path (dumped_at inodes path n) file
     (files_dumped names inodes) (ap (changed (dumped_at inodes)) (drop_there (entries names) at (path, n) there)) put refl is so_far
 
-pub dumping_end : (at : ℕ) (files : Named DumpInode) (names : Named Ino) (inodes : Numbered Inode) → drop at (entries names) ≡ [] → Dumping at files names inodes → files ≡ files_dumped names inodes
+pub dumping_end : (at : ℕ) (files : ByName DumpInode) (names : ByName Ino) (inodes : ByNumber Inode) → drop at (entries names) ≡ [] → Dumping at files names inodes → files ≡ files_dumped names inodes
 dumping_end at files names inodes none so_far =
     sym (ap (λ (l : List (List ℕ × Ino)). poured (changed (dumped_at inodes) l) files) none) ∙ so_far
 
-pub all_dumped : (at : ℕ) (files : Named DumpInode) (names : Named Ino) (inodes : Numbered Inode) → len names ≤ at → Dumping at files names inodes → files ≡ files_dumped names inodes
+pub all_dumped : (at : ℕ) (files : ByName DumpInode) (names : ByName Ino) (inodes : ByNumber Inode) → len names ≤ at → Dumping at files names inodes → files ≡ files_dumped names inodes
 all_dumped at files names inodes past so_far =
     dumping_end at files names inodes (drop_all at (entries names) (let e = len-entries names in omega arith)) so_far
 
-pub none_left : (at : ℕ) (files : Named DumpInode) (names : Named Ino) (inodes : Numbered Inode) → None ≡ slice_get (entries names) at → Dumping at files names inodes → files ≡ files_dumped names inodes
+pub none_left : (at : ℕ) (files : ByName DumpInode) (names : ByName Ino) (inodes : ByNumber Inode) → None ≡ slice_get (entries names) at → Dumping at files names inodes → files ≡ files_dumped names inodes
 none_left at files names inodes none so_far = dumping_end at files names inodes (drop_none (entries names) at (sym none)) so_far

@@ -2,7 +2,7 @@
 use Rattle.std.proofs.Common.{◌≡◌, ℕ, List, ◌+◌, ◌-◌, ◌*◌, ◌/◌, ◌<◌, ◌^◌, ◌%◌, sym, ap, ◌∙◌, arith}
 use Rattle.std.proofs.Math.Nat.{mod-add-mod, mod-add-div', add-mul-mod_self_right, mod-eq_of_lt}
 use Rattle.std.specs.FinMap.{empty, get, insert, remove}
-use Rattle.dm_durable.specs.Tables.{Named}
+use Rattle.dm_durable.specs.Tables.{ByName}
 use Rattle.dm_tables.specs.Totals.{total, weight_at}
 use Rattle.dm_tables.proofs.Orders.{paths}
 use Rattle.dm_tables.proofs.Sums.{total-empty, total-insert, total-remove}
@@ -40,7 +40,7 @@ itself n small = sym (mod-eq_of_lt small)
 -- ---- tables
 module _ {X : Type 0} (weight : X → ℕ) where
   -- a row is put in the place of the one that was
-  pub size_put : (size less add : ℕ) (rows more : Named X) (k key : List ℕ) (v : X) → less < 2 ^ 64 → size ≡ total weight rows % 2 ^ 64
+  pub size_put : (size less add : ℕ) (rows more : ByName X) (k key : List ℕ) (v : X) → less < 2 ^ 64 → size ≡ total weight rows % 2 ^ 64
       → less ≡ weight_at weight (get rows k) % 2 ^ 64 → add ≡ weight v % 2 ^ 64 → key ≡ k → more ≡ insert rows key v
       → ((size + (2 ^ 64 - less)) % 2 ^ 64 + add) % 2 ^ 64 ≡ total weight more % 2 ^ 64
   size_put size less add rows more k key v small is off on same put =
@@ -49,12 +49,12 @@ module _ {X : Type 0} (weight : X → ℕ) where
       (ap (λ m. total weight m + weight_at weight (get rows k)) whole ∙ total-insert paths weight rows k v)
 
   -- a row is taken out
-  pub size_out : (size less : ℕ) (rows left : Named X) (k : List ℕ) → less < 2 ^ 64 → size ≡ total weight rows % 2 ^ 64
+  pub size_out : (size less : ℕ) (rows left : ByName X) (k : List ℕ) → less < 2 ^ 64 → size ≡ total weight rows % 2 ^ 64
       → less ≡ weight_at weight (get rows k) % 2 ^ 64 → left ≡ remove rows k
       → (size + (2 ^ 64 - less)) % 2 ^ 64 ≡ total weight left % 2 ^ 64
   size_out size less rows left k small is off out =
       lesser_size size less (weight_at weight (get rows k)) (total weight rows) (total weight left) small is off
       (ap (λ m. total weight m + weight_at weight (get rows k)) out ∙ total-remove paths weight rows k)
 
-  pub size_none : (rows : Named X) → rows ≡ empty → 0 ≡ total weight rows % 2 ^ 64
+  pub size_none : (rows : ByName X) → rows ≡ empty → 0 ≡ total weight rows % 2 ^ 64
   size_none rows none = sym (ap (λ m. total weight m % 2 ^ 64) none ∙ ap (λ n. n % 2 ^ 64) (total-empty _ weight))

@@ -19,7 +19,7 @@ use Rattle.dm_durable.specs.declared.daemon.DaemonStep.{DaemonStep}
 use Rattle.dm_durable.specs.declared.daemon.DaemonStep.TheVariants as step
 use Rattle.dm_durable.specs.declared.daemon.Dump.{Dump}
 use Rattle.dm_durable.specs.declared.daemon.Inode.{Inode}
-use Rattle.dm_durable.specs.Tables.{Numbered, Named}
+use Rattle.dm_durable.specs.Tables.{ByNumber, ByName}
 use Rattle.dm_durable.specs.Inodes.{length_of, as_making, as_ended, as_offline, as_recalled, with_contents}
 use Rattle.dm_durable.specs.Dumps.{with_least, dump_size}
 use Rattle.dm_durable.specs.Daemon.{size_of_files, size_of_dumps, size_of, after_begin_put, after_begin_put_at, after_release, after_restart, after_step}
@@ -69,7 +69,7 @@ module _ {K X : Type 0} {R : K → K → Ordering} (o : KeyOrder R) where
       total-entries w (map_values f m) ∙ ap (sum_of w) (entries-mapped o f m)
       ∙ sum_changed w f (entries m) (entries-each o (λ k x. w (f k x) ≡ w x) m same) ∙ sym (total-entries w m)
 
-size_formed_at : (inodes : Numbered Inode) (n : ℕ) (f : Contents → Contents) (o : Option Inode)
+size_formed_at : (inodes : ByNumber Inode) (n : ℕ) (f : Contents → Contents) (o : Option Inode)
     → get inodes n ≡ o → ((i : Inode) → o ≡ Some i → length_of (f i.contents) ≡ length_of i.contents)
     → size_of_files (adjust inodes n (with_contents f)) ≡ size_of_files inodes
 size_formed_at inodes n f None e same = ap size_of_files (adjust-none inodes n (with_contents f) e)
@@ -79,17 +79,17 @@ size_formed_at inodes n f (Some i) e same =
     omega arith
 
 -- a file that changes its form and not its length
-pub size_formed : (inodes : Numbered Inode) (n : ℕ) (f : Contents → Contents)
+pub size_formed : (inodes : ByNumber Inode) (n : ℕ) (f : Contents → Contents)
     → ((i : Inode) → get inodes n ≡ Some i → length_of (f i.contents) ≡ length_of i.contents)
     → size_of_files (adjust inodes n (with_contents f)) ≡ size_of_files inodes
 size_formed inodes n f same = size_formed_at inodes n f (get inodes n) refl same
 
 -- all files that are being put become regular
-pub size_restarted : (inodes : Numbered Inode) → size_of_files (map_values (λ n i. with_contents (as_ended false) i) inodes) ≡ size_of_files inodes
+pub size_restarted : (inodes : ByNumber Inode) → size_of_files (map_values (λ n i. with_contents (as_ended false) i) inodes) ≡ size_of_files inodes
 size_restarted inodes = total-mapped numbers (λ i. length_of i.contents) (λ n i. with_contents (as_ended false) i) inodes (λ n i e. length_ended false i.contents)
 
 -- an age changes no byte of a dump
-pub size_aged : (age : ℕ) (dumps : Named Dump) → size_of_dumps (map_values (λ name d. with_least age d) dumps) ≡ size_of_dumps dumps
+pub size_aged : (age : ℕ) (dumps : ByName Dump) → size_of_dumps (map_values (λ name d. with_least age d) dumps) ≡ size_of_dumps dumps
 size_aged age dumps = total-mapped paths dump_size (λ name d. with_least age d) dumps (λ name d e. refl)
 
 -- ---- steps that keep the size

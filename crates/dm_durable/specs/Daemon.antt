@@ -18,16 +18,16 @@ use Rattle.dm_tables.specs.Rows.{adjust, map_values}
 use Rattle.dm_tables.specs.Totals.{total}
 use Rattle.dm_rules.specs.Numbers.{as_word}
 pub use Rattle.dm_rules.specs.Numbers.{bfid_of}
-use Rattle.dm_durable.specs.Tables.{Numbered, Named}
+use Rattle.dm_durable.specs.Tables.{ByNumber, ByName}
 use Rattle.dm_durable.specs.Inodes.{bitfile_in, bytes_online, length_of, has_making, is_made, is_named, as_making, as_ended, as_offline, as_recalled, with_contents}
 use Rattle.dm_durable.specs.Entries.{after_letting_go, after_letting_go_if, new_entry, with_copy_of, with_deletion_time, without_deletion_time, as_dropping}
 use Rattle.dm_durable.specs.Dumps.{new_dump, with_least, file_in, bitfile_dumped, as_restored, dump_size}
 
 -- the bytes of all files, online or not, and those that are kept in dumps
-abbrev pub size_of_files : Numbered Inode → ℕ
+abbrev pub size_of_files : ByNumber Inode → ℕ
 size_of_files inodes = total (λ i. length_of i.contents) inodes
 
-abbrev pub size_of_dumps : Named DumpRow → ℕ
+abbrev pub size_of_dumps : ByName DumpRow → ℕ
 size_of_dumps dumps = total dump_size dumps
 
 abbrev pub size_of : DaemonTables → ℕ
@@ -97,7 +97,7 @@ after_release t (Some n) = record t { inodes = adjust t.inodes n.0 (with_content
 -- ---- dumps
 
 -- an inode names the bitfile: its entry has no deletion time
-abbrev pub with_named : Numbered Entry → Option ℕ → Numbered Entry
+abbrev pub with_named : ByNumber Entry → Option ℕ → ByNumber Entry
 with_named entries None = entries
 with_named entries (Some b) = adjust entries b without_deletion_time
 
@@ -114,13 +114,13 @@ after_restore t target change (Some file) = record t {
 -- ---- deletes
 
 -- the copies of these bitfiles are being deleted
-abbrev pub with_dropping : List Bfid → Numbered Entry → Numbered Entry
+abbrev pub with_dropping : List Bfid → ByNumber Entry → ByNumber Entry
 with_dropping bfids entries = map_values (λ b e. cond (list_any (λ c. nat_eq c.0 b) bfids) (as_dropping e) e) entries
 
 -- ---- beginning anew
 
 -- each entry of a put that has not ended, and whose bitfile no inode names after that, is deleted at that time
-abbrev pub after_ending_puts : Numbered Entry → Numbered Inode → Numbered Inode → ℕ → Numbered Entry
+abbrev pub after_ending_puts : ByNumber Entry → ByNumber Inode → ByNumber Inode → ℕ → ByNumber Entry
 after_ending_puts entries before inodes time =
     map_values (λ b e. cond (is_made before b && not (is_named inodes b)) (with_deletion_time time e) e) entries
 

@@ -17,7 +17,7 @@ use Rattle.dm_durable.specs.declared.daemon.DaemonTables.{DaemonTables}
 use Rattle.dm_durable.specs.declared.daemon.DaemonStep.{DaemonStep}
 use Rattle.dm_durable.specs.declared.daemon.DaemonStep.TheVariants.{Write, Remove, BeginPut, Stored, EndPut, Release, Taken, Dump, Undump, Restore, HardDelete, Dropped, Restart, Age}
 use Rattle.dm_durable.specs.declared.daemon.DaemonRecord.{DaemonRecord}
-use Rattle.dm_durable.specs.Tables.{Numbered}
+use Rattle.dm_durable.specs.Tables.{ByNumber}
 use Rattle.dm_durable.specs.Limits.{AreGroups}
 use Rattle.dm_durable.specs.Inodes.{has_making}
 use Rattle.dm_durable.specs.Entries.{asks, has_stored, is_stored, is_complete, is_due}
@@ -106,13 +106,13 @@ pub record MayDump (t : DaemonTables) (name : List ℕ) : Type 0 where
   pub room : map.len t.dumps < dumps_limit
 
 -- the bitfile's copies are all there
-pub record HasComplete (entries : Numbered Entry) (b : ℕ) : Type 0 where
+pub record HasComplete (entries : ByNumber Entry) (b : ℕ) : Type 0 where
   pub entry : Entry
   pub is : map.get entries b ≡ Some entry
   pub complete : is_complete entry ≡ true
 
 -- the bytes of a file of a dump are there
-abbrev pub IsThere : Numbered Entry → DumpInode → Type 0
+abbrev pub IsThere : ByNumber Entry → DumpInode → Type 0
 IsThere entries (Kept bytes) = Unit {0}
 IsThere entries (NamedFile len b) = HasComplete entries b.0
 

@@ -23,7 +23,7 @@ use Rattle.dm_durable.specs.declared.daemon_journal.DaemonRow.TheVariants as row
 use Rattle.dm_durable.specs.declared.daemon_journal.JournalVersion.{JournalVersion}
 use Rattle.dm_durable.specs.declared.daemon_journal.JournalVersion.TheVariants.{First, Second}
 use Rattle.dm_tables.specs.Rows.{EachRow}
-use Rattle.dm_durable.specs.Tables.{Numbered}
+use Rattle.dm_durable.specs.Tables.{ByNumber}
 use Rattle.dm_durable.specs.Limits.{IsFirstNumber, AreGroups, IsPast}
 use Rattle.dm_durable.specs.Inodes.{bitfile_of, length_of}
 use Rattle.dm_durable.specs.Entries.{groups_asked}
@@ -118,11 +118,11 @@ pub record IsGiven (site next b : ℕ) : Type 0 where
   pub used : counter < next
 
 -- where the bitfile has an entry, that has the length
-abbrev pub HasLength : Numbered Entry → ℕ → ℕ → Type 0
+abbrev pub HasLength : ByNumber Entry → ℕ → ℕ → Type 0
 HasLength entries len b = (e : Entry) → map.get entries b ≡ Some e → e.len ≡ len
 
 -- a bitfile that a file of this length names, if it names one
-abbrev pub MayBeNamed : ℕ → ℕ → Numbered Entry → ℕ → Option ℕ → Type 0
+abbrev pub MayBeNamed : ℕ → ℕ → ByNumber Entry → ℕ → Option ℕ → Type 0
 MayBeNamed site next entries len None = Unit {0}
 MayBeNamed site next entries len (Some b) = IsGiven site next b × HasLength entries len b
 
@@ -131,7 +131,7 @@ pub record IsChange (last n : ℕ) : Type 0 where
   pub least : 1 ≤ n
   pub most : n ≤ last
 
-pub record MayBeInode (site next last : ℕ) (entries : Numbered Entry) (n : ℕ) (i : Inode) : Type 0 where
+pub record MayBeInode (site next last : ℕ) (entries : ByNumber Entry) (n : ℕ) (i : Inode) : Type 0 where
   pub number : IsChange last n
   pub change : IsChange last i.change
   pub short : length_of i.contents ≤ file_limit
@@ -144,11 +144,11 @@ pub record MayBeEntry (site next now b : ℕ) (e : Entry) : Type 0 where
   pub numbers : AreGroups (groups_asked e)
   pub deleted : IsPast now e.gone
 
-pub record MayBeDumpFile (site next : ℕ) (entries : Numbered Entry) (f : DumpInode) : Type 0 where
+pub record MayBeDumpFile (site next : ℕ) (entries : ByNumber Entry) (f : DumpInode) : Type 0 where
   pub short : length_dumped f ≤ file_limit
   pub names : MayBeNamed site next entries (length_dumped f) (bitfile_dumped f)
 
-pub record MayBeDump (site next now age : ℕ) (entries : Numbered Entry) (d : Dump) : Type 0 where
+pub record MayBeDump (site next now age : ℕ) (entries : ByNumber Entry) (d : Dump) : Type 0 where
   pub made : d.made.0 ≤ now
   pub least : d.least ≤ age
   pub files : EachRow d.files (λ path f. MayBeDumpFile site next entries f)

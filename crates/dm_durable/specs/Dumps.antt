@@ -11,7 +11,7 @@ use Rattle.std.specs.FinMap as map
 use Rattle.dm_rules.specs.Numbers.{lesser}
 use Rattle.dm_tables.specs.Rows.{map_values}
 use Rattle.dm_tables.specs.Totals.{total}
-use Rattle.dm_durable.specs.Tables.{Numbered, Named}
+use Rattle.dm_durable.specs.Tables.{ByNumber, ByName}
 
 -- whether a dump is young: one that was made `age` seconds ago, or earlier, isn't
 abbrev pub is_young_at : ℕ → ℕ → ℕ → Bool
@@ -35,10 +35,10 @@ file_dumped_if None = Kept []
 file_dumped_if (Some i) = file_dumped i.contents
 
 -- all files
-abbrev pub files_dumped : Named Ino → Numbered Inode → Named DumpInode
+abbrev pub files_dumped : ByName Ino → ByNumber Inode → ByName DumpInode
 files_dumped names inodes = map_values (λ path n. file_dumped_if (map.get inodes n.0)) names
 
-abbrev pub new_dump : ℕ → ℕ → Named Ino → Numbered Inode → Dump
+abbrev pub new_dump : ℕ → ℕ → ByName Ino → ByNumber Inode → Dump
 new_dump now age names inodes = record { made = record { 0 = now }; least = age; files = files_dumped names inodes }
 
 -- the age in force is this from now on
@@ -76,5 +76,5 @@ abbrev pub dump_size : Dump → ℕ
 dump_size d = total bytes_kept d.files
 
 -- the bytes that a dump of all files would keep
-abbrev pub size_of_new_dump : Numbered Inode → ℕ
+abbrev pub size_of_new_dump : ByNumber Inode → ℕ
 size_of_new_dump inodes = total (λ i. bytes_kept (file_dumped i.contents)) inodes

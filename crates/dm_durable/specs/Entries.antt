@@ -7,7 +7,7 @@ use Rattle.dm_durable.specs.declared.daemon.AskedCopy.{AskedCopy}
 use Rattle.dm_durable.specs.declared.daemon.Entry.{Entry}
 use Rattle.dm_durable.specs.declared.daemon.Inode.{Inode}
 use Rattle.dm_tables.specs.Rows.{adjust}
-use Rattle.dm_durable.specs.Tables.{Numbered}
+use Rattle.dm_durable.specs.Tables.{ByNumber}
 use Rattle.dm_durable.specs.Inodes.{is_named}
 
 -- whether the group was asked for a copy
@@ -56,10 +56,10 @@ abbrev pub without_deletion_time : Entry → Entry
 without_deletion_time e = record e { gone = None }
 
 -- the bitfile is let go: where none of these inodes names it any more, its entry is deleted at that time
-abbrev pub after_letting_go : Numbered Entry → Numbered Inode → ℕ → ℕ → Numbered Entry
+abbrev pub after_letting_go : ByNumber Entry → ByNumber Inode → ℕ → ℕ → ByNumber Entry
 after_letting_go entries inodes time b = cond (is_named inodes b) entries (adjust entries b (with_deletion_time time))
 
-abbrev pub after_letting_go_if : Numbered Entry → Numbered Inode → ℕ → Option ℕ → Numbered Entry
+abbrev pub after_letting_go_if : ByNumber Entry → ByNumber Inode → ℕ → Option ℕ → ByNumber Entry
 after_letting_go_if entries inodes time None = entries
 after_letting_go_if entries inodes time (Some b) = after_letting_go entries inodes time b
 

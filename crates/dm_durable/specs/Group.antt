@@ -13,7 +13,7 @@ use Rattle.dm_durable.specs.declared.group.GroupRecord.{GroupRecord}
 use Rattle.dm_tables.specs.Rows.{adjust, any}
 use Rattle.dm_rules.specs.Label.{first_zone}
 use Rattle.dm_rules.specs.Numbers.{greater, as_word}
-use Rattle.dm_durable.specs.Tables.{Named, Numbered, same_text}
+use Rattle.dm_durable.specs.Tables.{ByName, ByNumber, same_text}
 
 -- ---- volumes
 
@@ -27,7 +27,7 @@ abbrev pub with_end_behind : Chunk → VolumeRow → VolumeRow
 with_end_behind c v = record v { end = greater v.end (as_word (c.place + c.len)) }
 
 -- each chunk raises the end of its volume, where that is lower
-unfoldable pub with_ends_behind : List Chunk → Named VolumeRow → Named VolumeRow
+unfoldable pub with_ends_behind : List Chunk → ByName VolumeRow → ByName VolumeRow
 with_ends_behind [] volumes = volumes
 with_ends_behind (c ∷ cs) volumes = with_ends_behind cs (adjust volumes c.vsn.0 (with_end_behind c))
 
@@ -58,7 +58,7 @@ abbrev pub is_on : List ℕ → Chunk → Bool
 is_on vsn c = same_text c.vsn.0 vsn
 
 -- whether a chunk of some bitfile is on the volume
-abbrev pub has_chunk_on : Numbered BitfileRow → List ℕ → Bool
+abbrev pub has_chunk_on : ByNumber BitfileRow → List ℕ → Bool
 has_chunk_on bitfiles vsn = any (λ b row. list_any (is_on vsn) row.chunks) bitfiles
 
 -- ---- all steps

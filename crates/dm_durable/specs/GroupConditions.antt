@@ -12,7 +12,7 @@ use Rattle.dm_durable.specs.declared.group.GroupRecord.{GroupRecord}
 use Rattle.dm_rules.specs.Label.{first_zone}
 use Rattle.dm_rules.specs.Version.{IsVersion, has_sum}
 use Rattle.dm_tables.specs.Rows.{EachRow}
-use Rattle.dm_durable.specs.Tables.{Named}
+use Rattle.dm_durable.specs.Tables.{ByName}
 use Rattle.dm_durable.specs.Limits.{IsVolumeSize}
 use Rattle.dm_durable.specs.Group.{chunk_at, has_chunk_on}
 
@@ -24,13 +24,13 @@ Joins from [] to = from ≡ to
 Joins from (c ∷ cs) to = (c.offset ≡ from) × (0 < c.len) × Joins (from + c.len) cs to
 
 -- a chunk has a sum exactly where the version of its volume is one of chunks with sums
-pub record IsOfVersion (volumes : Named VolumeRow) (c : Chunk) : Type 0 where
+pub record IsOfVersion (volumes : ByName VolumeRow) (c : Chunk) : Type 0 where
   pub volume : VolumeRow
   pub is : map.get volumes c.vsn.0 ≡ Some volume
   pub sum : is_some c.sum ≡ has_sum volume.version
 
 -- a chunk lies behind the label of a volume that may be written, and has a sum exactly where that volume's chunks do
-pub record LiesOn (volumes : Named VolumeRow) (c : Chunk) : Type 0 where
+pub record LiesOn (volumes : ByName VolumeRow) (c : Chunk) : Type 0 where
   pub volume : VolumeRow
   pub is : map.get volumes c.vsn.0 ≡ Some volume
   pub usable : volume.held ≡ None
@@ -38,12 +38,12 @@ pub record LiesOn (volumes : Named VolumeRow) (c : Chunk) : Type 0 where
   pub within : c.place + c.len ≤ volume.size
   pub sum : is_some c.sum ≡ has_sum volume.version
 
-abbrev pub EachLies : Named VolumeRow → List Chunk → Type 0
+abbrev pub EachLies : ByName VolumeRow → List Chunk → Type 0
 EachLies volumes [] = Unit {0}
 EachLies volumes (c ∷ cs) = LiesOn volumes c × EachLies volumes cs
 
 -- a bitfile of this length may stand in these chunks
-pub record MayStand (volumes : Named VolumeRow) (len : ℕ) (chunks : List Chunk) : Type 0 where
+pub record MayStand (volumes : ByName VolumeRow) (len : ℕ) (chunks : List Chunk) : Type 0 where
   pub joins : Joins 0 chunks len
   pub lies : EachLies volumes chunks
 

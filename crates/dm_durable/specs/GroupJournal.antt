@@ -20,7 +20,7 @@ use Rattle.dm_durable.specs.declared.group_journal.GroupRow.TheVariants as row
 use Rattle.dm_rules.specs.Label.{first_zone}
 use Rattle.dm_rules.specs.Version.{IsVersion, first_version}
 use Rattle.dm_tables.specs.Rows.{EachRow}
-use Rattle.dm_durable.specs.Tables.{Named}
+use Rattle.dm_durable.specs.Tables.{ByName}
 use Rattle.dm_durable.specs.Limits.{IsGroupNumber, IsVolumeSize, IsPast}
 use Rattle.dm_durable.specs.Fields.{IsOldStep}
 use Rattle.dm_durable.specs.Group.{empty_group, group_after_record}
@@ -29,7 +29,7 @@ use Rattle.dm_durable.specs.GroupConditions.{MayGroupFollow, MayStand}
 -- ---- a log
 
 -- the volume of a serial number is held
-pub record IsHeld (volumes : Named VolumeRow) (vsn : List ℕ) : Type 0 where
+pub record IsHeld (volumes : ByName VolumeRow) (vsn : List ℕ) : Type 0 where
   pub volume : VolumeRow
   pub is : map.get volumes vsn ≡ Some volume
   pub held : IsSome volume.held

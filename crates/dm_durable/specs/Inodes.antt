@@ -5,7 +5,7 @@ use Rattle.dm_durable.specs.declared.daemon.Contents.{Contents}
 use Rattle.dm_durable.specs.declared.daemon.Contents.TheVariants.{Regular, Making, Dual, Offline}
 use Rattle.dm_durable.specs.declared.daemon.Inode.{Inode}
 use Rattle.dm_tables.specs.Rows.{any}
-use Rattle.dm_durable.specs.Tables.{Numbered}
+use Rattle.dm_durable.specs.Tables.{ByNumber}
 
 -- the bitfile that it names
 abbrev pub bitfile_of : Contents → Option ℕ
@@ -73,7 +73,7 @@ is_bitfile b None = false
 is_bitfile b (Some c) = nat_eq c b
 
 -- whether an inode names the bitfile
-abbrev pub is_named : Numbered Inode → ℕ → Bool
+abbrev pub is_named : ByNumber Inode → ℕ → Bool
 is_named inodes b = any (λ n i. is_bitfile b (bitfile_of i.contents)) inodes
 
 -- the bitfile that the inode of a number names
@@ -97,9 +97,9 @@ bitfile_made (Dual bytes b) = None
 bitfile_made (Offline len b) = None
 
 -- whether some put has not ended
-abbrev pub has_making : Numbered Inode → Bool
+abbrev pub has_making : ByNumber Inode → Bool
 has_making inodes = any (λ n i. is_making i.contents) inodes
 
 -- whether a put of this bitfile has not ended
-abbrev pub is_made : Numbered Inode → ℕ → Bool
+abbrev pub is_made : ByNumber Inode → ℕ → Bool
 is_made inodes b = any (λ n i. is_bitfile b (bitfile_made i.contents)) inodes

@@ -5,11 +5,11 @@ use Rattle.std.specs.Ordering.{nat_cmp}
 use Rattle.std.specs.Cmp.Lexicographic.{slice_cmp}
 use lib.Pointwise.{pointwise}
 
-abbrev pub Numbered : Type 0 → Type 0
-Numbered X = map.FinMap nat_cmp X
+abbrev pub ByNumber : Type 0 → Type 0
+ByNumber X = map.FinMap nat_cmp X
 
-abbrev pub Named : Type 0 → Type 0
-Named X = map.FinMap (slice_cmp nat_cmp) X
+abbrev pub ByName : Type 0 → Type 0
+ByName X = map.FinMap (slice_cmp nat_cmp) X
 
 -- whether two texts are the same
 abbrev pub same_text : List ℕ → List ℕ → Bool

@@ -5,16 +5,16 @@ use Rattle.std.proofs.Math.ListN.{drop_of_length-le}
 use Rattle.dm_base.specs.declared.volume.Chunk.{Chunk}
 use Rattle.dm_durable.specs.declared.group.VolumeRow.{VolumeRow}
 use Rattle.dm_tables.specs.Rows.{adjust}
-use Rattle.dm_durable.specs.Tables.{Named}
+use Rattle.dm_durable.specs.Tables.{ByName}
 use Rattle.dm_rules.specs.Numbers.{as_word, greater}
 use Rattle.dm_durable.specs.Group.{with_ends_behind, with_end_behind}
 
-pub raised_more : (chunks : List Chunk) (i : ℕ) (d : Chunk) (volumes new whole : Named VolumeRow) → i < length chunks → new ≡ adjust volumes (get_or chunks i d).vsn.0 (with_end_behind (get_or chunks i d)) → with_ends_behind (drop i chunks) volumes ≡ whole → with_ends_behind (drop (i + 1) chunks) new ≡ whole
+pub raised_more : (chunks : List Chunk) (i : ℕ) (d : Chunk) (volumes new whole : ByName VolumeRow) → i < length chunks → new ≡ adjust volumes (get_or chunks i d).vsn.0 (with_end_behind (get_or chunks i d)) → with_ends_behind (drop i chunks) volumes ≡ whole → with_ends_behind (drop (i + 1) chunks) new ≡ whole
 unfolding with_ends_behind
 raised_more chunks i d volumes new whole left is was =
     ap (with_ends_behind (drop (i + 1) chunks)) is ∙ sym (at_drop_more (λ l. with_ends_behind l volumes) chunks i d left) ∙ was
 
-pub raised_all : (chunks : List Chunk) (i : ℕ) (volumes whole : Named VolumeRow) → length chunks ≤ i → with_ends_behind (drop i chunks) volumes ≡ whole → volumes ≡ whole
+pub raised_all : (chunks : List Chunk) (i : ℕ) (volumes whole : ByName VolumeRow) → length chunks ≤ i → with_ends_behind (drop i chunks) volumes ≡ whole → volumes ≡ whole
 unfolding with_ends_behind
 raised_all chunks i volumes whole end was = sym (ap (λ l. with_ends_behind l volumes) (drop_of_length-le chunks end)) ∙ was
 

@@ -8,7 +8,7 @@ use Rattle.dm_durable.specs.declared.daemon.Inode.{Inode}
 use Rattle.dm_durable.specs.Daemon.{after_ending_puts}
 use Rattle.dm_durable.specs.Entries.{with_deletion_time}
 use Rattle.dm_durable.specs.Inodes.{is_bitfile}
-use Rattle.dm_durable.specs.Tables.{Numbered}
+use Rattle.dm_durable.specs.Tables.{ByNumber}
 use Rattle.dm_tables.specs.Rows.{any, map_values}
 use Rattle.dm_tables.proofs.Any.{any-entries}
 use Rattle.dm_tables.proofs.Loops.{asked}
@@ -29,7 +29,7 @@ either_assoc true b c = refl
 either_assoc false b c = refl
 
 -- one bitfile more
-pub has_more : (old new : Numbered (Unit {0})) (b : ℕ) → new ≡ insert old b tt → HasMore old (Some b) new
+pub has_more : (old new : ByNumber (Unit {0})) (b : ℕ) → new ≡ insert old b tt → HasMore old (Some b) new
 has_more old new b put = λ q.
     ap (λ m. is_some (get m q)) put
     ∙ elim (same_or numbers b q) [
@@ -41,7 +41,7 @@ has_more old new b put = λ q.
           ∙ either_false (has old q) ∙ ap (λ t. has old q || t) (sym (ne_eqb b q (λ e. differ (sym e))))
     ]
 
-pub has_same : (old : Numbered (Unit {0})) → HasMore old None old
+pub has_same : (old : ByNumber (Unit {0})) → HasMore old None old
 has_same old = λ q. either_false (has old q)
 
 -- whether some of these inodes names it
@@ -49,18 +49,18 @@ abbrev pub named_in : Bool → List (ℕ × Inode) → ℕ → Bool
 named_in making left b = asked (λ (i : Inode). is_bitfile b (named_by making i.contents)) left
 
 -- the set and what the inodes that are left name are what all name
-abbrev pub Gathered : Bool → Numbered Inode → Numbered (Unit {0}) → List (ℕ × Inode) → Type 0
+abbrev pub Gathered : Bool → ByNumber Inode → ByNumber (Unit {0}) → List (ℕ × Inode) → Type 0
 Gathered making inodes set left =
     (b : ℕ) → (has set b || named_in making left b) ≡ any (λ n i. is_bitfile b (named_by making i.contents)) inodes
 
-pub gathered_none : (making : Bool) (inodes : Numbered Inode) (set : Numbered (Unit {0})) (left : List (ℕ × Inode)) → set ≡ empty → left ≡ entries inodes → Gathered making inodes set left
+pub gathered_none : (making : Bool) (inodes : ByNumber Inode) (set : ByNumber (Unit {0})) (left : List (ℕ × Inode)) → set ≡ empty → left ≡ entries inodes → Gathered making inodes set left
 gathered_none making inodes set left none is = λ b.
     ap (λ m. has m b || named_in making left b) none
     ∙ ap (λ r. is_some r || named_in making left b) (get-empty {X = Unit {0}} nat_cmp b)
     ∙ ap (λ l. named_in making l b) is
     ∙ sym (any-entries numbers (λ n i. is_bitfile b (named_by making i.contents)) inodes)
 
-pub gathered_more : (making : Bool) (inodes : Numbered Inode) (old new : Numbered (Unit {0})) (left rest : List (ℕ × Inode)) (n : ℕ) (i : Inode) (named : Option ℕ) → left ≡ (n, i) ∷ rest → named ≡ named_by making i.contents → HasMore old named new → Gathered making inodes old left → Gathered making inodes new rest
+pub gathered_more : (making : Bool) (inodes : ByNumber Inode) (old new : ByNumber (Unit {0})) (left rest : List (ℕ × Inode)) (n : ℕ) (i : Inode) (named : Option ℕ) → left ≡ (n, i) ∷ rest → named ≡ named_by making i.contents → HasMore old named new → Gathered making inodes old left → Gathered making inodes new rest
 gathered_more making inodes old new left rest n i named is names more so_far = λ b.
     ap (λ t. t || named_in making rest b) (more b)
     ∙ either_assoc (has old b) (is_bitfile b named) (named_in making rest b)
@@ -68,12 +68,12 @@ gathered_more making inodes old new left rest n i named is names more so_far = �
     ∙ ap (λ l. has old b || named_in making l b) (sym is)
     ∙ so_far b
 
-pub gathered_all : (making : Bool) (inodes : Numbered Inode) (set : Numbered (Unit {0})) (left : List (ℕ × Inode)) → left ≡ [] → Gathered making inodes set left → HasNamed making inodes set
+pub gathered_all : (making : Bool) (inodes : ByNumber Inode) (set : ByNumber (Unit {0})) (left : List (ℕ × Inode)) → left ≡ [] → Gathered making inodes set left → HasNamed making inodes set
 gathered_all making inodes set left none so_far = λ b.
     either_false (has set b) ∙ ap (λ l. has set b || named_in making l b) (sym none) ∙ so_far b
 
 -- what the sets decide is what the inodes say
-pub ended_by : (before after : Numbered Inode) (made named : Numbered (Unit {0})) (time : ℕ) (entries : Numbered Entry) → HasNamed true before made → HasNamed false after named → map_values (λ b e. entry_after_put made named time b e) entries ≡ after_ending_puts entries before after time
+pub ended_by : (before after : ByNumber Inode) (made named : ByNumber (Unit {0})) (time : ℕ) (entries : ByNumber Entry) → HasNamed true before made → HasNamed false after named → map_values (λ b e. entry_after_put made named time b e) entries ≡ after_ending_puts entries before after time
 ended_by before after made named time entries has_made has_named =
     ap (λ (f : ℕ → Entry → Entry). map_values f entries)
     (λ j b e. cond (has_made b j && not (has_named b j)) (with_deletion_time time e) e)

@@ -18,7 +18,7 @@ use Rattle.dm_durable.specs.declared.daemon.DaemonStep.TheVariants.{BeginPut}
 use Rattle.dm_durable.specs.declared.daemon.DaemonTables.{DaemonTables}
 use Rattle.dm_durable.specs.declared.daemon.Entry.{Entry}
 use Rattle.dm_durable.specs.declared.daemon.Inode.{Inode}
-use Rattle.dm_durable.specs.Tables.{Numbered}
+use Rattle.dm_durable.specs.Tables.{ByNumber}
 use Rattle.dm_model.specs.declared.answer.Answer.{Answer}
 use Rattle.dm_model.specs.declared.call.Component.TheVariants as component
 use Rattle.dm_model.specs.declared.call.DaemonCall.TheVariants as call
@@ -93,11 +93,11 @@ new_request n i b = record { ino = record { 0 = n }; bfid = b; was = i.change; f
 
 -- after a put began the inode names the bitfile, which has an entry and its content
 record PutLanded (j : Joint) (n : ℕ) (i : Inode) (b : Bfid) (groups : List GroupId) : Type 0 where
-  pub inodes : Numbered Inode
+  pub inodes : ByNumber Inode
   pub named : j.daemon.tables.inodes ≡ map.insert inodes n (with_contents (as_making b) i)
-  pub entries : Numbered Entry
+  pub entries : ByNumber Entry
   pub put : j.daemon.tables.entries ≡ map.insert entries b.0 (new_entry (length (bytes_online i.contents)) groups)
-  pub contents : Numbered (List ℕ)
+  pub contents : ByNumber (List ℕ)
   pub noted : j.history.contents ≡ map.insert contents b.0 (bytes_online i.contents)
 
 put_landed : (j : Joint) (path : List ℕ) (groups : List GroupId) (b : Bfid) (time : Secs) (f : File) → Found j path f

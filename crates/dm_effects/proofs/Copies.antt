@@ -10,7 +10,7 @@ use Rattle.dm_tables.proofs.Adjusted.{adjusted, adjusted_row, adjusted-beside}
 use Rattle.dm_durable.specs.declared.daemon.Entry.{Entry}
 use Rattle.dm_durable.specs.declared.group.BitfileRow.{BitfileRow}
 use Rattle.dm_durable.specs.declared.group.VolumeRow.{VolumeRow}
-use Rattle.dm_durable.specs.Tables.{Numbered, Named}
+use Rattle.dm_durable.specs.Tables.{ByNumber, ByName}
 use Rattle.dm_model.specs.declared.state.CopyReservation.{CopyReservation}
 use Rattle.dm_model.specs.declared.state.CopyState.{CopyState}
 use Rattle.dm_model.specs.declared.state.Image.{Image}
@@ -40,7 +40,7 @@ pub record CopyBy (R : CopyReservation → CopyReservation → Type 0) (c d : Co
   pub held : HeldBy R c.reservation d.reservation
 
 -- a table of copies before and after
-pub record CopiesBy (R : CopyReservation → CopyReservation → Type 0) (old new : Numbered CopyState) : Type 0 where
+pub record CopiesBy (R : CopyReservation → CopyReservation → Type 0) (old new : ByNumber CopyState) : Type 0 where
   pub stays : EachRow old (λ b c. (d : CopyState) × (map.get new b ≡ Some d) × CopyBy R c d)
   pub comes : EachRow new (λ b d. (c : CopyState) × (map.get old b ≡ Some c) × CopyBy R c d)
 
@@ -74,11 +74,11 @@ module _ (R : CopyReservation → CopyReservation → Type 0) (same : (h : CopyR
   copy_itself c = record { request = refl; len = refl; held = held_itself c.reservation }
 
   -- copies that stay as they are
-  pub copies_same : (copies : Numbered CopyState) → CopiesBy R copies copies
+  pub copies_same : (copies : ByNumber CopyState) → CopiesBy R copies copies
   copies_same copies = record { stays = λ b c is. (c, is, copy_itself c); comes = λ b c is. (c, is, copy_itself c) }
 
   -- copies of which one changes its reservation
-  pub copies_changed : (b : ℕ) (f : CopyReservation → CopyReservation) (copies : Numbered CopyState) → ((h : CopyReservation) → R h (f h))
+  pub copies_changed : (b : ℕ) (f : CopyReservation → CopyReservation) (copies : ByNumber CopyState) → ((h : CopyReservation) → R h (f h))
       → CopiesBy R copies (adjust copies b (reservation_by f))
   copies_changed b f copies each = record {
     stays = λ q c is. elim (same_or numbers b q) [
@@ -94,9 +94,9 @@ module _ (R : CopyReservation → CopyReservation → Type 0) (same : (h : CopyR
   }
 
 module _ (R : CopyReservation → CopyReservation → Type 0) (number : (h k : CopyReservation) → R h k → k.number ≡ h.number)
-    (copies new : Numbered CopyState) (on : CopiesBy R copies new) where
+    (copies new : ByNumber CopyState) (on : CopiesBy R copies new) where
   -- what is kept of a mount is kept where its place in the reservation stays
-  pub origin_by : (conf : GroupConf) (reservations : Numbered Reserved) (moves : Numbered Moving) (reuses : Numbered Reusing) (m : ℕ) (vsn : Vsn)
+  pub origin_by : (conf : GroupConf) (reservations : ByNumber Reserved) (moves : ByNumber Moving) (reuses : ByNumber Reusing) (m : ℕ) (vsn : Vsn)
       (o : Origin)
       → ((h k : CopyReservation) → R h k → map.get k.mounts m ≡ map.get h.mounts m)
       → OriginKept conf reservations copies moves reuses m vsn o → OriginKept conf reservations new moves reuses m vsn o
@@ -123,7 +123,7 @@ module _ (R : CopyReservation → CopyReservation → Type 0) (number : (h k : C
   origin_by conf reservations moves reuses m vsn (origin.Reuse next_epoch version reading) mounts k = k
 
   -- and of a reservation where what was written of its pieces is known
-  pub reserved_by : (bitfiles : Numbered BitfileRow) (volumes : Named VolumeRow) (tips : Named ℕ) (images after : Named Image) (n : ℕ) (r : Reserved)
+  pub reserved_by : (bitfiles : ByNumber BitfileRow) (volumes : ByName VolumeRow) (tips : ByName ℕ) (images after : ByName Image) (n : ℕ) (r : Reserved)
       → (k : ReservationKept bitfiles volumes tips images copies n r)
       → ((c : CopyState) (held : CopyReservation) → R k.held held → map.get new r.bfid.0 ≡ Some c → c.reservation ≡ Some held
       → EachRow held.written (λ index w. (p : Piece) → piece_at index r.pieces ≡ Some p → WrittenKept after r.chunk p w))
@@ -146,8 +146,8 @@ module _ (R : CopyReservation → CopyReservation → Type 0) (number : (h k : C
       }
 
   -- and of a copy
-  pub copies_by : (g : ℕ) (entries : Numbered Entry) (contents : Numbered (List ℕ)) (requests : Numbered OpenRequest)
-      (reservations : Numbered Reserved)
+  pub copies_by : (g : ℕ) (entries : ByNumber Entry) (contents : ByNumber (List ℕ)) (requests : ByNumber OpenRequest)
+      (reservations : ByNumber Reserved)
       → EachRow copies (CopyKept g entries contents requests reservations) → EachRow new (CopyKept g entries contents requests reservations)
   copies_by g entries contents requests reservations each = λ b d is.
       let c = on.comes b d is in

@@ -8,7 +8,7 @@ use Rattle.dm_base.specs.declared.serial.Vsn.{Vsn}
 use Rattle.dm_tables.proofs.Orders.{numbers}
 use Rattle.dm_tables.proofs.Rows.{removed, removed-beside}
 use Rattle.dm_durable.specs.declared.daemon.Entry.{Entry}
-use Rattle.dm_durable.specs.Tables.{Numbered}
+use Rattle.dm_durable.specs.Tables.{ByNumber}
 use Rattle.dm_model.specs.declared.plan.Ending.TheVariants as ending
 use Rattle.dm_model.specs.declared.state.CopyReservation.{CopyReservation}
 use Rattle.dm_model.specs.declared.state.CopyState.{CopyState}
@@ -26,16 +26,16 @@ use Rattle.dm_invariant.proofs.Options.{none_some}
 use Rattle.dm_effects.proofs.Uses.{doubt_fewer, open_of, same_uses}
 
 -- the bitfile's copy, if there is one, has no reservation
-abbrev pub IsUnreserved : Numbered CopyState → ℕ → Type 0
+abbrev pub IsUnreserved : ByNumber CopyState → ℕ → Type 0
 IsUnreserved copies b = (c : CopyState) → map.get copies b ≡ Some c → c.reservation ≡ None
 
 -- a copy that has one is of another bitfile
-pub reserved_apart : (copies : Numbered CopyState) (b q : ℕ) (c : CopyState) (held : CopyReservation) → IsUnreserved copies b
+pub reserved_apart : (copies : ByNumber CopyState) (b q : ℕ) (c : CopyState) (held : CopyReservation) → IsUnreserved copies b
     → map.get copies q ≡ Some c → c.reservation ≡ Some held → q ≢ b
 reserved_apart copies b q c held none is has = λ same. none_some c.reservation held (none c (ap (map.get copies) (sym same) ∙ is)) has
 
-origin_left : (conf : GroupConf) (reservations : Numbered Reserved) (copies : Numbered CopyState) (moves : Numbered Moving)
-    (reuses : Numbered Reusing) (b m : ℕ) (vsn : Vsn) (o : Origin) → IsUnreserved copies b
+origin_left : (conf : GroupConf) (reservations : ByNumber Reserved) (copies : ByNumber CopyState) (moves : ByNumber Moving)
+    (reuses : ByNumber Reusing) (b m : ℕ) (vsn : Vsn) (o : Origin) → IsUnreserved copies b
     → OriginKept conf reservations copies moves reuses m vsn o → OriginKept conf reservations (map.remove copies b) moves reuses m vsn o
 origin_left conf reservations copies moves reuses b m vsn (origin.New listed format) none k = k
 origin_left conf reservations copies moves reuses b m vsn (origin.Piece q index p chunk) none k = record {
@@ -57,8 +57,8 @@ origin_left conf reservations copies moves reuses b m vsn (origin.Target job c t
 origin_left conf reservations copies moves reuses b m vsn (origin.Reuse next_epoch version reading) none k = k
 
 -- a put that ends keeps the side, where each other copy's put stays open
-pub side_put_ended : (entries : Numbered Entry) (contents : Numbered (List ℕ)) (taken : Numbered (Unit {0})) (requests : Numbered OpenRequest)
-    (g : ℕ) (committed deleted : Numbered (Unit {0})) (s : Side) (n : ℕ) (b : Bfid) (groups : List GroupId)
+pub side_put_ended : (entries : ByNumber Entry) (contents : ByNumber (List ℕ)) (taken : ByNumber (Unit {0})) (requests : ByNumber OpenRequest)
+    (g : ℕ) (committed deleted : ByNumber (Unit {0})) (s : Side) (n : ℕ) (b : Bfid) (groups : List GroupId)
     → IsUnreserved s.copies b.0
     → ((r : OpenRequest) → map.get requests n ≡ Some r → r.bfid.0 ≡ b.0)
     → SideKept entries contents taken requests g committed deleted s

@@ -7,7 +7,7 @@ use Rattle.dm_base.specs.declared.serial.Vsn.{Vsn}
 use Rattle.dm_tables.proofs.Orders.{numbers}
 use Rattle.dm_tables.proofs.Rows.{get-beside, get-here, inserted}
 use Rattle.dm_durable.specs.declared.daemon.Entry.{Entry}
-use Rattle.dm_durable.specs.Tables.{Numbered}
+use Rattle.dm_durable.specs.Tables.{ByNumber}
 use Rattle.dm_model.specs.declared.plan.Opening.TheVariants as opening
 use Rattle.dm_model.specs.declared.state.CopyState.{CopyState}
 use Rattle.dm_model.specs.declared.state.Moving.{Moving}
@@ -28,16 +28,16 @@ use Rattle.dm_effects.proofs.CopyEnded.{IsUnreserved, reserved_apart}
 use Rattle.dm_effects.proofs.Uses.{doubt_fewer, open_of, same_uses}
 
 -- the put is of a bitfile that was asked of the group; its number is free
-pub record PutOpens (g : ℕ) (entries : Numbered Entry) (contents : Numbered (List ℕ)) (requests : Numbered OpenRequest)
-    (copies : Numbered CopyState) (n : ℕ) (r : OpenRequest) (len : ℕ) : Type 0 where
+pub record PutOpens (g : ℕ) (entries : ByNumber Entry) (contents : ByNumber (List ℕ)) (requests : ByNumber OpenRequest)
+    (copies : ByNumber CopyState) (n : ℕ) (r : OpenRequest) (len : ℕ) : Type 0 where
   pub free : map.get requests n ≡ None
   pub put : is_put r.kind ≡ true
   pub of : AskedBitfile g entries contents r.bfid.0
   pub len_is : of.entry.len ≡ len
   pub unreserved : IsUnreserved copies r.bfid.0
 
-origin_more : (conf : GroupConf) (reservations : Numbered Reserved) (copies : Numbered CopyState) (moves : Numbered Moving)
-    (reuses : Numbered Reusing) (b m : ℕ) (c : CopyState) (vsn : Vsn) (o : Origin) → IsUnreserved copies b
+origin_more : (conf : GroupConf) (reservations : ByNumber Reserved) (copies : ByNumber CopyState) (moves : ByNumber Moving)
+    (reuses : ByNumber Reusing) (b m : ℕ) (c : CopyState) (vsn : Vsn) (o : Origin) → IsUnreserved copies b
     → OriginKept conf reservations copies moves reuses m vsn o → OriginKept conf reservations (map.insert copies b c) moves reuses m vsn o
 origin_more conf reservations copies moves reuses b m c vsn (origin.New listed format) none k = k
 origin_more conf reservations copies moves reuses b m c vsn (origin.Piece q index p chunk) none k = record {
@@ -59,8 +59,8 @@ origin_more conf reservations copies moves reuses b m c vsn (origin.Target job d
 origin_more conf reservations copies moves reuses b m c vsn (origin.Reuse next_epoch version reading) none k = k
 
 -- a put that begins keeps the side
-pub side_put_opened : (entries : Numbered Entry) (contents : Numbered (List ℕ)) (taken : Numbered (Unit {0})) (requests : Numbered OpenRequest)
-    (g : ℕ) (committed deleted : Numbered (Unit {0})) (s : Side) (n : ℕ) (r : OpenRequest) (len : ℕ) (groups : List GroupId)
+pub side_put_opened : (entries : ByNumber Entry) (contents : ByNumber (List ℕ)) (taken : ByNumber (Unit {0})) (requests : ByNumber OpenRequest)
+    (g : ℕ) (committed deleted : ByNumber (Unit {0})) (s : Side) (n : ℕ) (r : OpenRequest) (len : ℕ) (groups : List GroupId)
     → PutOpens g entries contents requests s.copies n r len
     → SideKept entries contents taken requests g committed deleted s
     → SideKept entries contents taken (map.insert requests n r) g committed deleted (side_after_opening (opening.Put n r len groups) s)

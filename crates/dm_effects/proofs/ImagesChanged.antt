@@ -17,7 +17,7 @@ use Rattle.dm_durable.specs.declared.group.GroupRecord.{GroupRecord}
 use Rattle.dm_durable.specs.declared.group.GroupStep.{GroupStep}
 use Rattle.dm_durable.specs.declared.group.GroupStep.TheVariants.{Volume, Commit, Delete, Move, Free, Reuse}
 use Rattle.dm_durable.specs.declared.group.VolumeRow.{VolumeRow}
-use Rattle.dm_durable.specs.Tables.{Numbered, Named}
+use Rattle.dm_durable.specs.Tables.{ByNumber, ByName}
 use Rattle.dm_durable.specs.Volumes.{epoch_or}
 use Rattle.dm_model.specs.declared.state.CopyReservation.{CopyReservation}
 use Rattle.dm_model.specs.declared.state.CopyState.{CopyState}
@@ -48,7 +48,7 @@ use Rattle.dm_effects.proofs.Copies.{CopiesBy, origin_by, reserved_by, copies_by
 -- ---- what is known of the volumes
 
 -- beside the n places from `place` on of the volume, the same is known of the volumes before and after
-abbrev pub KnownBeside : List ℕ → ℕ → ℕ → Named Image → Named Image → Type 0
+abbrev pub KnownBeside : List ℕ → ℕ → ℕ → ByName Image → ByName Image → Type 0
 KnownBeside vsn place n old new =
     (v : List ℕ) (q : ℕ) → (v ≡ vsn → (q < place) ⊎ (place + n ≤ q)) → map.get (known_on new v) q ≡ map.get (known_on old v) q
 
@@ -57,7 +57,7 @@ known_changed : (f : Known → Known) (o : Option Image) (q : ℕ) → ((k : Kno
 known_changed f None q same = refl
 known_changed f (Some i) q same = same i.known
 
-image_changed : (f : Known → Known) (vsn : List ℕ) (place n : ℕ) (images : Named Image)
+image_changed : (f : Known → Known) (vsn : List ℕ) (place n : ℕ) (images : ByName Image)
     → ((k : Known) (q : ℕ) → (q < place) ⊎ (place + n ≤ q) → map.get (f k) q ≡ map.get k q)
     → KnownBeside vsn place n images (adjust images vsn (known_by f))
 image_changed f vsn place n images same = λ v q out.
@@ -71,22 +71,22 @@ image_changed f vsn place n images same = λ v q out.
     ]
 
 -- after a write
-pub image_written : (vsn : List ℕ) (place : ℕ) (bytes : List ℕ) (images : Named Image)
+pub image_written : (vsn : List ℕ) (place : ℕ) (bytes : List ℕ) (images : ByName Image)
     → KnownBeside vsn place (length bytes) images (adjust images vsn (known_by (known_with_write place bytes)))
 image_written vsn place bytes images =
     image_changed (known_with_write place bytes) vsn place (length bytes) images (λ k q out. get-written_out place bytes k q out)
 
 -- and after one that failed
-pub image_forgotten : (vsn : List ℕ) (place n : ℕ) (images : Named Image)
+pub image_forgotten : (vsn : List ℕ) (place n : ℕ) (images : ByName Image)
     → KnownBeside vsn place n images (adjust images vsn (known_by (known_without_range place n)))
 image_forgotten vsn place n images = image_changed (known_without_range place n) vsn place n images (λ k q out. get-forgotten_out place n k q out)
 
 -- no place changed
-pub images_same : (vsn : List ℕ) (place n : ℕ) (images : Named Image) → KnownBeside vsn place n images images
+pub images_same : (vsn : List ℕ) (place n : ℕ) (images : ByName Image) → KnownBeside vsn place n images images
 images_same vsn place n images = λ v q out. refl
 
 -- a range of a volume that has no place of the one that changed
-pub range_beside : (vsn : List ℕ) (place n : ℕ) (old new : Named Image) (v : List ℕ) (start m : ℕ) → KnownBeside vsn place n old new
+pub range_beside : (vsn : List ℕ) (place n : ℕ) (old new : ByName Image) (v : List ℕ) (start m : ℕ) → KnownBeside vsn place n old new
     → ((q : ℕ) → v ≡ vsn → start ≤ q → q < start + m → place ≤ q → q < place + n → ⊥)
     → known_bytes (known_on new v) start m ≡ known_bytes (known_on old v) start m
 range_beside vsn place n old new v start m beside apart =
@@ -100,7 +100,7 @@ range_beside vsn place n old new v start m beside apart =
 abbrev pub Spares : List ℕ → ℕ → ℕ → Chunk → Type 0
 Spares vsn place n c = (q : ℕ) → ChunkCovers c vsn q → place ≤ q → q < place + n → ⊥
 
-chunk_beside : (vsn : List ℕ) (place n : ℕ) (old new : Named Image) (bytes : List ℕ) (c : Chunk)
+chunk_beside : (vsn : List ℕ) (place n : ℕ) (old new : ByName Image) (bytes : List ℕ) (c : Chunk)
     → KnownBeside vsn place n old new → Spares vsn place n c
     → ChunkKnown old bytes c → ChunkKnown new bytes c
 chunk_beside vsn place n old new bytes c beside spares known =
@@ -119,7 +119,7 @@ pub like_itself : (h : CopyReservation) → HeldLike h h
 like_itself h = record { number = refl; mounts = refl }
 
 -- what was written of a reservation's pieces is known of the volumes
-abbrev pub AllWritten : Numbered Reserved → Named Image → Numbered CopyState → Type 0
+abbrev pub AllWritten : ByNumber Reserved → ByName Image → ByNumber CopyState → Type 0
 AllWritten reservations images copies =
     (n : ℕ) (r : Reserved) (c : CopyState)
     (held : CopyReservation) → map.get reservations n ≡ Some r → map.get copies r.bfid.0 ≡ Some c → c.reservation ≡ Some held
@@ -135,13 +135,13 @@ pub record MountLike (x y : MountState) : Type 0 where
   pub bound : y.bound ≡ x.bound
 
 -- a table of mounts before and after
-pub record MountsLike (old new : Numbered MountState) : Type 0 where
+pub record MountsLike (old new : ByNumber MountState) : Type 0 where
   pub same : (m : ℕ) → option_map mounted_of (map.get new m) ≡ option_map mounted_of (map.get old m)
   pub stays : EachRow old (λ m x. (y : MountState) × (map.get new m ≡ Some y) × MountLike x y)
   pub comes : EachRow new (λ m y. (x : MountState) × (map.get old m ≡ Some x) × MountLike x y)
 
 -- mounts that stay as they are
-pub mounts_same : (mounts : Numbered MountState) → MountsLike mounts mounts
+pub mounts_same : (mounts : ByNumber MountState) → MountsLike mounts mounts
 mounts_same mounts = record {
   same = λ m. refl;
   stays = λ m x is. (x, is, record { vsn = refl; epoch = refl; origin = refl; bound = refl });
@@ -154,7 +154,7 @@ mounted_as f None like = refl
 mounted_as f (Some x) like = let l = like x in let vsn = l.vsn in let epoch = l.epoch in cc
 
 -- one of which what was done on it changes
-pub mount_changed : (f : MountState → MountState) (mounts : Numbered MountState) (m : ℕ) → ((x : MountState) → MountLike x (f x))
+pub mount_changed : (f : MountState → MountState) (mounts : ByNumber MountState) (m : ℕ) → ((x : MountState) → MountLike x (f x))
     → MountsLike mounts (adjust mounts m f)
 mount_changed f mounts m like = record {
   same = λ q. elim (same_or numbers m q) [
@@ -175,9 +175,9 @@ mount_changed f mounts m like = record {
 
 -- ---- the subjects
 
-module _ (conf : GroupConf) (volumes : Named VolumeRow) (reservations : Numbered Reserved) (moves : Numbered Moving) (reuses : Numbered Reusing)
-    (copies new : Numbered CopyState) (on : CopiesBy HeldLike copies new) where
-  mounts_like : (group_mounts : Numbered Mounted) (next : ℕ) (mounts after : Numbered MountState) → MountsLike mounts after
+module _ (conf : GroupConf) (volumes : ByName VolumeRow) (reservations : ByNumber Reserved) (moves : ByNumber Moving) (reuses : ByNumber Reusing)
+    (copies new : ByNumber CopyState) (on : CopiesBy HeldLike copies new) where
+  mounts_like : (group_mounts : ByNumber Mounted) (next : ℕ) (mounts after : ByNumber MountState) → MountsLike mounts after
       → MountsKept conf volumes reservations copies moves reuses group_mounts next mounts
       → MountsKept conf volumes reservations new moves reuses group_mounts next after
   mounts_like group_mounts next mounts after like k = record {
@@ -198,13 +198,13 @@ module _ (conf : GroupConf) (volumes : Named VolumeRow) (reservations : Numbered
     origin = λ m y is.
         let x = like.comes m y is in
         let was = origin_by HeldLike (λ h k like. like.number) copies new on conf reservations moves reuses m x.0.vsn x.0.origin
-        (λ h k like. ap (λ (t : Numbered ℕ). map.get t m) like.mounts) (k.origin m x.0 x.1) in
+        (λ h k like. ap (λ (t : ByNumber ℕ). map.get t m) like.mounts) (k.origin m x.0 x.1) in
         subst (λ (o : Origin). OriginKept conf reservations new moves reuses m y.vsn o) (sym x.2.origin)
         (subst (λ (v : Vsn). OriginKept conf reservations new moves reuses m v x.0.origin) (sym x.2.vsn) was);
   }
 
-module _ (vsn : List ℕ) (place n : ℕ) (old new : Named Image) (beside : KnownBeside vsn place n old new) where
-  bitfile_beside : (g : ℕ) (entries : Numbered Entry) (contents : Numbered (List ℕ)) (volumes : Named VolumeRow) (b : ℕ) (row : BitfileRow)
+module _ (vsn : List ℕ) (place n : ℕ) (old new : ByName Image) (beside : KnownBeside vsn place n old new) where
+  bitfile_beside : (g : ℕ) (entries : ByNumber Entry) (contents : ByNumber (List ℕ)) (volumes : ByName VolumeRow) (b : ℕ) (row : BitfileRow)
       → ((c : Chunk) → IsAmong c row.chunks → Spares vsn place n c)
       → BitfileKept g entries contents volumes old b row → BitfileKept g entries contents volumes new b row
   bitfile_beside g entries contents volumes b row spares k = record {
@@ -216,7 +216,7 @@ module _ (vsn : List ℕ) (place n : ℕ) (old new : Named Image) (beside : Know
     sums = k.sums;
   }
 
-  module _ (contents : Numbered (List ℕ)) (volumes : Named VolumeRow) (reservations : Numbered Reserved) (moves : Numbered Moving)
+  module _ (contents : ByNumber (List ℕ)) (volumes : ByName VolumeRow) (reservations : ByNumber Reserved) (moves : ByNumber Moving)
       (spared : (v : VolumeRow) (b : ℕ) (c : Chunk) → StillThere contents old reservations moves v b c → Spares vsn place n c) where
     once_beside : (epoch b : ℕ) (c : Chunk)
         → OnceLive contents volumes old reservations moves epoch b c → OnceLive contents volumes new reservations moves epoch b c
@@ -245,8 +245,8 @@ module _ (vsn : List ℕ) (place n : ℕ) (old new : Named Image) (beside : Know
     mount_once_beside epoch (origin.Target job b total c version) k = k
     mount_once_beside epoch (origin.Reuse next_epoch version reading) k = k
 
-  puts_beside : (g : ℕ) (entries : Numbered Entry) (contents : Numbered (List ℕ)) (volumes : Named VolumeRow) (tips : Named ℕ)
-      (deleted : Numbered (Unit {0})) (b : ℕ) (IsNew : Chunk → Type 0) → ((c : Chunk) → IsNew c → Spares vsn place n c)
+  puts_beside : (g : ℕ) (entries : ByNumber Entry) (contents : ByNumber (List ℕ)) (volumes : ByName VolumeRow) (tips : ByName ℕ)
+      (deleted : ByNumber (Unit {0})) (b : ℕ) (IsNew : Chunk → Type 0) → ((c : Chunk) → IsNew c → Spares vsn place n c)
       → PutNeeds g entries contents old volumes tips deleted b IsNew → PutNeeds g entries contents new volumes tips deleted b IsNew
   puts_beside g entries contents volumes tips deleted b IsNew spares k = record {
     of = k.of;
@@ -256,22 +256,22 @@ module _ (vsn : List ℕ) (place n : ℕ) (old new : Named Image) (beside : Know
     undeleted = k.undeleted;
   }
 
-unmounted_like : (mounts after : Numbered MountState) (vsn : List ℕ) → MountsLike mounts after
+unmounted_like : (mounts after : ByNumber MountState) (vsn : List ℕ) → MountsLike mounts after
     → EachRow mounts (λ m x. x.vsn.0 ≡ vsn → ⊥) → EachRow after (λ m x. x.vsn.0 ≡ vsn → ⊥)
 unmounted_like mounts after vsn like none = λ m y is same.
     let x = like.comes m y is in none m x.0 x.1 (ap (λ (v : Vsn). v.0) (sym x.2.vsn) ∙ same)
 
-unused_like : (mounts after : Numbered MountState) (reservations : Numbered Reserved) (vsn : List ℕ) → MountsLike mounts after
+unused_like : (mounts after : ByNumber MountState) (reservations : ByNumber Reserved) (vsn : List ℕ) → MountsLike mounts after
     → IsUnused mounts reservations vsn → IsUnused after reservations vsn
 unused_like mounts after reservations vsn like u =
     record { unmounted = unmounted_like mounts after vsn like u.unmounted; unreserved = u.unreserved }
 
-module _ (vsn : List ℕ) (place n : ℕ) (s : Side) (images : Named Image) (copies : Numbered CopyState) (mounts : Numbered MountState)
+module _ (vsn : List ℕ) (place n : ℕ) (s : Side) (images : ByName Image) (copies : ByNumber CopyState) (mounts : ByNumber MountState)
     (beside : KnownBeside vsn place n s.images images) (like : MountsLike s.mounts mounts) where
   abbrev after : Side
   after = record s { images = images; copies = copies; mounts = mounts }
 
-  needs_beside : (g : ℕ) (entries : Numbered Entry) (contents : Numbered (List ℕ)) (taken deleted : Numbered (Unit {0})) (now : ℕ) (step : GroupStep)
+  needs_beside : (g : ℕ) (entries : ByNumber Entry) (contents : ByNumber (List ℕ)) (taken deleted : ByNumber (Unit {0})) (now : ℕ) (step : GroupStep)
       → ((c : Chunk) → IsPut c step → Spares vsn place n c)
       → GroupStepNeeds g entries contents taken deleted s now step → GroupStepNeeds g entries contents taken deleted after now step
   unfolding puts_beside
@@ -292,7 +292,7 @@ module _ (vsn : List ℕ) (place n : ℕ) (s : Side) (images : Named Image) (cop
   needs_beside g entries contents taken deleted now (Reuse v epoch version) spares k =
       record { unused = unused_like s.mounts mounts s.group.reservations v.0 like k.unused; ready = k.ready }
 
-  doubt_beside : (g : ℕ) (entries : Numbered Entry) (contents : Numbered (List ℕ)) (taken deleted : Numbered (Unit {0})) (o : Option GroupRecord)
+  doubt_beside : (g : ℕ) (entries : ByNumber Entry) (contents : ByNumber (List ℕ)) (taken deleted : ByNumber (Unit {0})) (o : Option GroupRecord)
       → ((c : Chunk) → IsDoubted c o → Spares vsn place n c)
       → GroupMayLandIf g entries contents taken deleted s o → GroupMayLandIf g entries contents taken deleted after o
   doubt_beside g entries contents taken deleted None spares k = k
@@ -302,21 +302,21 @@ module _ (vsn : List ℕ) (place n : ℕ) (s : Side) (images : Named Image) (cop
 -- ---- the whole side
 
 -- no chunk has a place of the range
-pub record SparesChunks (contents : Numbered (List ℕ)) (s : Side) (vsn : List ℕ) (place n : ℕ) : Type 0 where
+pub record SparesChunks (contents : ByNumber (List ℕ)) (s : Side) (vsn : List ℕ) (place n : ℕ) : Type 0 where
   pub live : EachRow s.group.tables.bitfiles (λ b row. (c : Chunk) → IsAmong c row.chunks → Spares vsn place n c)
   pub once : (v : VolumeRow) (b : ℕ) (c : Chunk) → StillThere contents s.images s.group.reservations s.group.moves v b c → Spares vsn place n c
   pub doubted : (c : Chunk) → IsDoubted c s.group.doubt → Spares vsn place n c
 
 -- what was read of moved chunks is right, and what was written of them is known
-pub record MovesRight (contents : Numbered (List ℕ)) (moves : Numbered Moving) (images : Named Image) (mounts : Numbered MountState) : Type 0 where
+pub record MovesRight (contents : ByNumber (List ℕ)) (moves : ByNumber Moving) (images : ByName Image) (mounts : ByNumber MountState) : Type 0 where
   pub read : (job : ℕ) (x : Moving) (y : MountState) → map.get moves job ≡ Some x → map.get mounts x.source ≡ Some y
       → ReadRight contents x.bfid.0 x.from y.read
   pub written : (job : ℕ) (x : Moving) (y : MountState) → map.get moves job ≡ Some x → map.get mounts x.target ≡ Some y
       → WrittenRight images x.version x.to y.written
 
-pub side_beside : (entries : Numbered Entry) (contents : Numbered (List ℕ)) (taken : Numbered (Unit {0})) (requests : Numbered OpenRequest)
-    (g : ℕ) (committed deleted : Numbered (Unit {0})) (vsn : List ℕ) (place n : ℕ)
-    (s : Side) (images : Named Image) (copies : Numbered CopyState) (mounts : Numbered MountState)
+pub side_beside : (entries : ByNumber Entry) (contents : ByNumber (List ℕ)) (taken : ByNumber (Unit {0})) (requests : ByNumber OpenRequest)
+    (g : ℕ) (committed deleted : ByNumber (Unit {0})) (vsn : List ℕ) (place n : ℕ)
+    (s : Side) (images : ByName Image) (copies : ByNumber CopyState) (mounts : ByNumber MountState)
     → KnownBeside vsn place n s.images images → CopiesBy HeldLike s.copies copies → MountsLike s.mounts mounts
     → SparesChunks contents s vsn place n → AllWritten s.group.reservations images copies → MovesRight contents s.group.moves images mounts
     → SideKept entries contents taken requests g committed deleted s

@@ -15,7 +15,7 @@ use Rattle.dm_durable.specs.declared.group.GroupStep.{GroupStep}
 use Rattle.dm_durable.specs.declared.group.GroupStep.TheVariants.{Volume, Commit, Delete, Move, Free, Reuse}
 use Rattle.dm_durable.specs.declared.group.GroupTables.{GroupTables}
 use Rattle.dm_durable.specs.GroupConditions.{MayGroupStep}
-use Rattle.dm_durable.specs.Tables.{Named, Numbered}
+use Rattle.dm_durable.specs.Tables.{ByName, ByNumber}
 use Rattle.dm_model.specs.declared.plan.Mark.TheVariants as mark
 use Rattle.dm_model.specs.declared.state.Image.{Image}
 use Rattle.dm_model.specs.declared.state.Label.{Label}
@@ -51,8 +51,8 @@ step_spares t vsn n (Move b from to) long may c put =
 step_spares t vsn n (Free v) long may c put = absurd put
 step_spares t vsn n (Reuse v epoch version) long may c put = absurd put
 
-module _ (entries : Numbered Entry) (contents : Numbered (List ℕ)) (taken : Numbered (Unit {0})) (requests : Numbered OpenRequest)
-    (g : ℕ) (committed deleted : Numbered (Unit {0})) (s : Side) (vsn : List ℕ) (m n : ℕ) (label : Option Label) (images : Named Image)
+module _ (entries : ByNumber Entry) (contents : ByNumber (List ℕ)) (taken : ByNumber (Unit {0})) (requests : ByNumber OpenRequest)
+    (g : ℕ) (committed deleted : ByNumber (Unit {0})) (s : Side) (vsn : List ℕ) (m n : ℕ) (label : Option Label) (images : ByName Image)
     (long : n ≡ first_zone) (beside : KnownBeside vsn 0 n s.images images)
     (kept : SideKept entries contents taken requests g committed deleted s) where
   doubt_spares : (doubt : Option GroupRecord) → GroupMayLandIf g entries contents taken deleted s doubt
@@ -118,8 +118,8 @@ module _ (entries : Numbered Entry) (contents : Numbered (List ℕ)) (taken : Nu
       (record { read = read_after; written = written_after }) kept
 
 -- the label of a volume is written: the side is kept
-pub side_labelled : (entries : Numbered Entry) (contents : Numbered (List ℕ)) (taken : Numbered (Unit {0})) (requests : Numbered OpenRequest)
-    (g : ℕ) (committed deleted : Numbered (Unit {0})) (s : Side) (h : GroupId) (vsn : Vsn) (m epoch version : ℕ) (text : List ℕ)
+pub side_labelled : (entries : ByNumber Entry) (contents : ByNumber (List ℕ)) (taken : ByNumber (Unit {0})) (requests : ByNumber OpenRequest)
+    (g : ℕ) (committed deleted : ByNumber (Unit {0})) (s : Side) (h : GroupId) (vsn : Vsn) (m epoch version : ℕ) (text : List ℕ)
     → length text ≡ first_zone
     → SideKept entries contents taken requests g committed deleted s
     → SideKept entries contents taken requests g committed deleted (side_after_mark (mark.Label h vsn m epoch version text) s)
@@ -128,8 +128,8 @@ side_labelled entries contents taken requests g committed deleted s h vsn m epoc
     (adjust s.images vsn.0 (known_by (known_with_write 0 text))) long (image_written vsn.0 0 text s.images) kept
 
 -- also where the write of the label fails
-pub side_label_failed : (entries : Numbered Entry) (contents : Numbered (List ℕ)) (taken : Numbered (Unit {0})) (requests : Numbered OpenRequest)
-    (g : ℕ) (committed deleted : Numbered (Unit {0})) (s : Side) (h : GroupId) (vsn : Vsn) (m epoch version : ℕ) (text : List ℕ)
+pub side_label_failed : (entries : ByNumber Entry) (contents : ByNumber (List ℕ)) (taken : ByNumber (Unit {0})) (requests : ByNumber OpenRequest)
+    (g : ℕ) (committed deleted : ByNumber (Unit {0})) (s : Side) (h : GroupId) (vsn : Vsn) (m epoch version : ℕ) (text : List ℕ)
     → length text ≡ first_zone
     → SideKept entries contents taken requests g committed deleted s
     → SideKept entries contents taken requests g committed deleted (side_after_failed_mark (mark.Label h vsn m epoch version text) s)

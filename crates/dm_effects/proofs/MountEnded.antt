@@ -10,7 +10,7 @@ use Rattle.dm_tables.proofs.Rows.{removed, removed-here, removed-beside}
 use Rattle.dm_durable.specs.declared.daemon.Entry.{Entry}
 use Rattle.dm_durable.specs.declared.group.BitfileRow.{BitfileRow}
 use Rattle.dm_durable.specs.declared.group.VolumeRow.{VolumeRow}
-use Rattle.dm_durable.specs.Tables.{Numbered, Named}
+use Rattle.dm_durable.specs.Tables.{ByNumber, ByName}
 use Rattle.dm_model.specs.declared.plan.Ending.TheVariants as ending
 use Rattle.dm_model.specs.declared.state.CopyReservation.{CopyReservation}
 use Rattle.dm_model.specs.declared.state.CopyState.{CopyState}
@@ -47,7 +47,7 @@ held_itself m h = record { number = refl; written = refl; mounts = λ q apart. r
 taken_out : (m : ℕ) (h : CopyReservation) → HeldBeside m h (without_piece_mount m h)
 taken_out m h = record { number = refl; written = refl; mounts = λ q apart. removed-beside numbers h.mounts m q apart }
 
-from_origin : (m : ℕ) (o : Origin) (copies : Numbered CopyState) → CopiesBy (HeldBeside m) copies (copies_unmounted m o copies)
+from_origin : (m : ℕ) (o : Origin) (copies : ByNumber CopyState) → CopiesBy (HeldBeside m) copies (copies_unmounted m o copies)
 from_origin m (origin.New listed format) copies = copies_same (HeldBeside m) (held_itself m) copies
 from_origin m (origin.Piece b index piece chunk) copies =
     copies_changed (HeldBeside m) (held_itself m) b.0 (without_piece_mount m) copies (taken_out m)
@@ -56,14 +56,14 @@ from_origin m (origin.Source job b chunk) copies = copies_same (HeldBeside m) (h
 from_origin m (origin.Target job b total chunk version) copies = copies_same (HeldBeside m) (held_itself m) copies
 from_origin m (origin.Reuse next_epoch version reading) copies = copies_same (HeldBeside m) (held_itself m) copies
 
-copies_without : (m : ℕ) (o : Option MountState) (copies : Numbered CopyState) → CopiesBy (HeldBeside m) copies (copies_unmounted_if m o copies)
+copies_without : (m : ℕ) (o : Option MountState) (copies : ByNumber CopyState) → CopiesBy (HeldBeside m) copies (copies_unmounted_if m o copies)
 copies_without m None copies = copies_same (HeldBeside m) (held_itself m) copies
 copies_without m (Some x) copies = from_origin m x.origin copies
 
 -- what is kept of reservations and copies
-pub reservations_beside : (g : ℕ) (entries : Numbered Entry) (contents : Numbered (List ℕ)) (requests : Numbered OpenRequest)
-    (bitfiles : Numbered BitfileRow) (volumes : Named VolumeRow) (tips : Named ℕ) (images : Named Image) (reservations : Numbered Reserved)
-    (next : ℕ) (copies new : Numbered CopyState) (m : ℕ)
+pub reservations_beside : (g : ℕ) (entries : ByNumber Entry) (contents : ByNumber (List ℕ)) (requests : ByNumber OpenRequest)
+    (bitfiles : ByNumber BitfileRow) (volumes : ByName VolumeRow) (tips : ByName ℕ) (images : ByName Image) (reservations : ByNumber Reserved)
+    (next : ℕ) (copies new : ByNumber CopyState) (m : ℕ)
     → CopiesBy (HeldBeside m) copies new
     → ReservationsKept g entries contents requests bitfiles volumes tips images reservations next copies
     → ReservationsKept g entries contents requests bitfiles volumes tips images reservations next new
@@ -77,8 +77,8 @@ reservations_beside g entries contents requests bitfiles volumes tips images res
 }
 
 -- what another mount was made for
-pub origin_beside : (conf : GroupConf) (reservations : Numbered Reserved) (copies new : Numbered CopyState) (moves : Numbered Moving)
-    (reuses : Numbered Reusing) (m q : ℕ) (vsn : Vsn) (o : Origin) → q ≢ m → CopiesBy (HeldBeside m) copies new
+pub origin_beside : (conf : GroupConf) (reservations : ByNumber Reserved) (copies new : ByNumber CopyState) (moves : ByNumber Moving)
+    (reuses : ByNumber Reusing) (m q : ℕ) (vsn : Vsn) (o : Origin) → q ≢ m → CopiesBy (HeldBeside m) copies new
     → OriginKept conf reservations copies moves reuses q vsn o → OriginKept conf reservations new moves reuses q vsn o
 origin_beside conf reservations copies new moves reuses m q vsn o apart on k =
     origin_by (HeldBeside m) (λ h k on. on.number) copies new on conf reservations moves reuses q vsn o (λ h k on. on.mounts q apart) k
@@ -89,13 +89,13 @@ less_by_one : (b : Bool) (n : ℕ) → cond b (n - 1) n ≤ n
 less_by_one true n = omega arith
 less_by_one false n = omega arith
 
-pub drives_left : (mounts : Numbered Mounted) (m n : ℕ) → map.len mounts ≤ n → map.len (map.remove mounts m) ≤ n
+pub drives_left : (mounts : ByNumber Mounted) (m n : ℕ) → map.len mounts ≤ n → map.len (map.remove mounts m) ≤ n
 drives_left mounts m n few =
     let is = map.len-remove nat_cmp_total mounts m in
     let less = less_by_one (map.contains_key mounts m) (map.len mounts) in
     omega (arith, is, less, few)
 
-pub same_mounts_left : (group_mounts : Numbered Mounted) (mounts : Numbered MountState) (m q : ℕ)
+pub same_mounts_left : (group_mounts : ByNumber Mounted) (mounts : ByNumber MountState) (m q : ℕ)
     → map.get group_mounts q ≡ option_map mounted_of (map.get mounts q)
     → map.get (map.remove group_mounts m) q ≡ option_map mounted_of (map.get (map.remove mounts m) q)
 same_mounts_left group_mounts mounts m q same =
@@ -109,13 +109,13 @@ same_mounts_left group_mounts mounts m q same =
 -- ---- a mount ends
 
 -- a mount of a move is another
-not_of_move : (mounts : Numbered MountState) (m q : ℕ) (x : MountState)
+not_of_move : (mounts : ByNumber MountState) (m q : ℕ) (x : MountState)
     → ((y : MountState) → map.get mounts m ≡ Some y → is_of_move y.origin ≡ false)
     → map.get mounts q ≡ Some x → is_of_move x.origin ≡ true → q ≢ m
 not_of_move mounts m q x none is of = λ same. let f = none x (ap (map.get mounts) (sym same) ∙ is) in cc
 
-origin_left : (conf : GroupConf) (reservations : Numbered Reserved) (copies : Numbered CopyState) (moves : Numbered Moving)
-    (reuses : Numbered Reusing) (m q : ℕ) (vsn : Vsn) (o : Origin) → q ≢ m
+origin_left : (conf : GroupConf) (reservations : ByNumber Reserved) (copies : ByNumber CopyState) (moves : ByNumber Moving)
+    (reuses : ByNumber Reusing) (m q : ℕ) (vsn : Vsn) (o : Origin) → q ≢ m
     → OriginKept conf reservations copies moves reuses q vsn o → OriginKept conf reservations copies moves (map.remove reuses m) q vsn o
 origin_left conf reservations copies moves reuses m q vsn (origin.New listed format) apart k = k
 origin_left conf reservations copies moves reuses m q vsn (origin.Piece b index p chunk) apart k = k
@@ -130,7 +130,7 @@ origin_left conf reservations copies moves reuses m q vsn (origin.Reuse next_epo
   volume = k.volume;
 }
 
-pub move_left : (contents : Numbered (List ℕ)) (volumes : Named VolumeRow) (tips : Named ℕ) (images : Named Image) (mounts after : Numbered MountState)
+pub move_left : (contents : ByNumber (List ℕ)) (volumes : ByName VolumeRow) (tips : ByName ℕ) (images : ByName Image) (mounts after : ByNumber MountState)
     (job : ℕ) (x : Moving) → (k : MoveKept contents volumes tips images mounts job x)
     → map.get after x.source ≡ Some k.source → map.get after x.target ≡ Some k.target
     → MoveKept contents volumes tips images after job x
@@ -148,7 +148,7 @@ move_left contents volumes tips images mounts after job x k source target = reco
   written = k.written;
 }
 
-pub reuse_left : (hold now : ℕ) (volumes : Named VolumeRow) (tips : Named ℕ) (mounts after : Numbered MountState) (q : ℕ) (x : Reusing)
+pub reuse_left : (hold now : ℕ) (volumes : ByName VolumeRow) (tips : ByName ℕ) (mounts after : ByNumber MountState) (q : ℕ) (x : Reusing)
     → (k : ReuseKept hold now volumes tips mounts q x) → map.get after q ≡ Some k.mount → ReuseKept hold now volumes tips after q x
 reuse_left hold now volumes tips mounts after q x k is = record {
   mount = k.mount;
@@ -165,8 +165,8 @@ reuse_left hold now volumes tips mounts after q x k is = record {
 }
 
 -- a mount that ends keeps the side
-pub side_mount_ended : (entries : Numbered Entry) (contents : Numbered (List ℕ)) (taken : Numbered (Unit {0})) (requests : Numbered OpenRequest)
-    (g : ℕ) (committed deleted : Numbered (Unit {0})) (s : Side) (h : GroupId) (m : ℕ)
+pub side_mount_ended : (entries : ByNumber Entry) (contents : ByNumber (List ℕ)) (taken : ByNumber (Unit {0})) (requests : ByNumber OpenRequest)
+    (g : ℕ) (committed deleted : ByNumber (Unit {0})) (s : Side) (h : GroupId) (m : ℕ)
     → ((x : MountState) → map.get s.mounts m ≡ Some x → is_of_move x.origin ≡ false)
     → SideKept entries contents taken requests g committed deleted s
     → SideKept entries contents taken requests g committed deleted (side_after_ending (ending.Mount h m) s)

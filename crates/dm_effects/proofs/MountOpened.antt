@@ -14,7 +14,7 @@ use Rattle.dm_durable.specs.declared.daemon.Entry.{Entry}
 use Rattle.dm_durable.specs.declared.group.GroupRecord.{GroupRecord}
 use Rattle.dm_durable.specs.declared.group.GroupStep.{GroupStep}
 use Rattle.dm_durable.specs.declared.group.GroupStep.TheVariants.{Volume, Commit, Delete, Move, Free, Reuse}
-use Rattle.dm_durable.specs.Tables.{Numbered}
+use Rattle.dm_durable.specs.Tables.{ByNumber}
 use Rattle.dm_durable.specs.Volumes.{epoch_or}
 use Rattle.dm_model.specs.declared.plan.Opening.TheVariants as opening
 use Rattle.dm_model.specs.declared.state.CopyReservation.{CopyReservation}
@@ -72,7 +72,7 @@ abbrev pub DoubtTakes : List ℕ → Option GroupRecord → Type 0
 DoubtTakes q None = ⊥
 DoubtTakes q (Some r) = Takes q r.step
 
-pub record MountOpens (contents : Numbered (List ℕ)) (s : Side) (m : ℕ) (vsn : Vsn) (epoch : ℕ) (made : Origin) : Type 0 where
+pub record MountOpens (contents : ByNumber (List ℕ)) (s : Side) (m : ℕ) (vsn : Vsn) (epoch : ℕ) (made : Origin) : Type 0 where
   pub number : s.group.next_mount ≤ m
   pub epoch_is : epoch ≡ epoch_or (map.get s.group.tables.volumes vsn.0)
   pub unmounted : EachRow s.mounts (λ n x. x.vsn.0 ≡ vsn.0 → ⊥)
@@ -88,11 +88,11 @@ fresh_of : (o : Option MountState) (m next : ℕ) → ((x : MountState) → o �
 fresh_of None m next below new = refl
 fresh_of (Some x) m next below new = let f = below x refl in absurd (omega (arith, f, new))
 
-pub fresh : (mounts : Numbered MountState) (m next : ℕ) → EachRow mounts (λ n x. n < next) → next ≤ m → map.get mounts m ≡ None
+pub fresh : (mounts : ByNumber MountState) (m next : ℕ) → EachRow mounts (λ n x. n < next) → next ≤ m → map.get mounts m ≡ None
 fresh mounts m next below new = fresh_of (map.get mounts m) m next (λ x is. below m x is) new
 
 -- so another mount has another number
-pub other_number : (mounts : Numbered MountState) (m q next : ℕ) (x : MountState) → EachRow mounts (λ n x. n < next) → next ≤ m
+pub other_number : (mounts : ByNumber MountState) (m q next : ℕ) (x : MountState) → EachRow mounts (λ n x. n < next) → next ≤ m
     → map.get mounts q ≡ Some x → q ≢ m
 other_number mounts m q next x below new is = λ same. let f = below q x is in absurd (omega (arith, f, new, same))
 
@@ -102,13 +102,13 @@ more_by_one : (b : Bool) (n : ℕ) → cond b n (n + 1) ≤ n + 1
 more_by_one true n = omega arith
 more_by_one false n = omega arith
 
-pub drive_taken : (mounts : Numbered Mounted) (m : ℕ) (x : Mounted) (n : ℕ) → suc (map.len mounts) ≤ n → map.len (map.insert mounts m x) ≤ n
+pub drive_taken : (mounts : ByNumber Mounted) (m : ℕ) (x : Mounted) (n : ℕ) → suc (map.len mounts) ≤ n → map.len (map.insert mounts m x) ≤ n
 drive_taken mounts m x n few =
     let is = map.len-insert nat_cmp_total mounts m x in
     let more = more_by_one (map.contains_key mounts m) (map.len mounts) in
     omega (arith, is, more, few)
 
-pub same_mounts_more : (group_mounts : Numbered Mounted) (mounts : Numbered MountState) (m q : ℕ) (x : MountState)
+pub same_mounts_more : (group_mounts : ByNumber Mounted) (mounts : ByNumber MountState) (m q : ℕ) (x : MountState)
     → map.get group_mounts q ≡ option_map mounted_of (map.get mounts q)
     → map.get (map.insert group_mounts m (mounted_of x)) q ≡ option_map mounted_of (map.get (map.insert mounts m x) q)
 same_mounts_more group_mounts mounts m q x same =
@@ -119,7 +119,7 @@ same_mounts_more group_mounts mounts m q x same =
           ∙ sym (ap (option_map mounted_of) (get-beside numbers mounts m x q beside))
     ]
 
-pub apart_more : (mounts : Numbered MountState) (m : ℕ) (x : MountState) → EachRow mounts (λ n y. y.vsn.0 ≡ x.vsn.0 → ⊥)
+pub apart_more : (mounts : ByNumber MountState) (m : ℕ) (x : MountState) → EachRow mounts (λ n y. y.vsn.0 ≡ x.vsn.0 → ⊥)
     → ((p q : ℕ) (y z : MountState) → map.get mounts p ≡ Some y → map.get mounts q ≡ Some z → y.vsn.0 ≡ z.vsn.0 → p ≡ q)
     → (p q : ℕ) (y z : MountState) → map.get (map.insert mounts m x) p ≡ Some y → map.get (map.insert mounts m x) q ≡ Some z
     → y.vsn.0 ≡ z.vsn.0 → p ≡ q
@@ -143,7 +143,7 @@ held_itself m h = record { number = refl; written = refl; mounts = λ q apart. r
 put_in : (m index : ℕ) (h : CopyReservation) → HeldBeside m h (with_piece_mount m index h)
 put_in m index h = record { number = refl; written = refl; mounts = λ q apart. get-beside numbers h.mounts m index q apart }
 
-copies_with : (m : ℕ) (o : Origin) (copies : Numbered CopyState) → CopiesBy (HeldBeside m) copies (copies_mounted m o copies)
+copies_with : (m : ℕ) (o : Origin) (copies : ByNumber CopyState) → CopiesBy (HeldBeside m) copies (copies_mounted m o copies)
 copies_with m (origin.New listed format) copies = copies_same (HeldBeside m) (held_itself m) copies
 copies_with m (origin.Piece b index piece chunk) copies =
     copies_changed (HeldBeside m) (held_itself m) b.0 (with_piece_mount m index) copies (put_in m index)
@@ -177,7 +177,7 @@ origin_made s m vsn (origin.Reuse next_epoch version reading) k = absurd k
 
 -- ---- a step in doubt
 
-unmounted_more : (mounts : Numbered MountState) (m : ℕ) (x : MountState) (vsn : List ℕ) → (vsn ≡ x.vsn.0 → ⊥)
+unmounted_more : (mounts : ByNumber MountState) (m : ℕ) (x : MountState) (vsn : List ℕ) → (vsn ≡ x.vsn.0 → ⊥)
     → EachRow mounts (λ n y. y.vsn.0 ≡ vsn → ⊥) → EachRow (map.insert mounts m x) (λ n y. y.vsn.0 ≡ vsn → ⊥)
 unmounted_more mounts m x vsn differ none = λ n y is same.
     elim (inserted numbers mounts m x n y is) [
@@ -185,12 +185,12 @@ unmounted_more mounts m x vsn differ none = λ n y is same.
       | inr beside ↦ none n y beside.1 same
     ]
 
-unused_more : (mounts : Numbered MountState) (reservations : Numbered Reserved) (m : ℕ) (x : MountState) (vsn : List ℕ) → (vsn ≡ x.vsn.0 → ⊥)
+unused_more : (mounts : ByNumber MountState) (reservations : ByNumber Reserved) (m : ℕ) (x : MountState) (vsn : List ℕ) → (vsn ≡ x.vsn.0 → ⊥)
     → IsUnused mounts reservations vsn → IsUnused (map.insert mounts m x) reservations vsn
 unused_more mounts reservations m x vsn differ u =
     record { unmounted = unmounted_more mounts m x vsn differ u.unmounted; unreserved = u.unreserved }
 
-module _ (g : ℕ) (entries : Numbered Entry) (contents : Numbered (List ℕ)) (taken deleted : Numbered (Unit {0})) (s : Side) (o : IsOpen)
+module _ (g : ℕ) (entries : ByNumber Entry) (contents : ByNumber (List ℕ)) (taken deleted : ByNumber (Unit {0})) (s : Side) (o : IsOpen)
     (m : ℕ) (x : MountState) where
   abbrev after : Side
   after = with_open (record o { mounts = map.insert s.mounts m x; reservations = s.group.reservations }) s
@@ -218,8 +218,8 @@ module _ (g : ℕ) (entries : Numbered Entry) (contents : Numbered (List ℕ)) (
 -- ---- a mount is made
 
 -- a mount that is made keeps the side
-pub side_mount_opened : (entries : Numbered Entry) (contents : Numbered (List ℕ)) (taken : Numbered (Unit {0})) (requests : Numbered OpenRequest)
-    (g : ℕ) (committed deleted : Numbered (Unit {0})) (s : Side) (h : GroupId) (m : ℕ) (vsn : Vsn) (epoch : ℕ) (made : Origin)
+pub side_mount_opened : (entries : ByNumber Entry) (contents : ByNumber (List ℕ)) (taken : ByNumber (Unit {0})) (requests : ByNumber OpenRequest)
+    (g : ℕ) (committed deleted : ByNumber (Unit {0})) (s : Side) (h : GroupId) (m : ℕ) (vsn : Vsn) (epoch : ℕ) (made : Origin)
     → MountOpens contents s m vsn epoch made
     → SideKept entries contents taken requests g committed deleted s
     → SideKept entries contents taken requests g committed deleted (side_after_opening (opening.Mount h m vsn epoch made) s)

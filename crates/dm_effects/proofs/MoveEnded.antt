@@ -11,7 +11,7 @@ use Rattle.dm_durable.specs.declared.daemon.Entry.{Entry}
 use Rattle.dm_durable.specs.declared.group.BitfileRow.{BitfileRow}
 use Rattle.dm_durable.specs.declared.group.GroupRecord.{GroupRecord}
 use Rattle.dm_durable.specs.declared.group.VolumeRow.{VolumeRow}
-use Rattle.dm_durable.specs.Tables.{Numbered, Named}
+use Rattle.dm_durable.specs.Tables.{ByNumber, ByName}
 use Rattle.dm_model.specs.declared.plan.Ending.TheVariants as ending
 use Rattle.dm_model.specs.declared.state.CopyState.{CopyState}
 use Rattle.dm_model.specs.declared.state.Image.{Image}
@@ -43,12 +43,12 @@ job_of (origin.Target job b total chunk version) other = job
 job_of (origin.Reuse next_epoch version reading) other = other
 
 -- who has a place still had it before
-target_left : (moves : Numbered Moving) (gone job : ℕ) (vsn : List ℕ) (place : ℕ) → HasTarget (map.remove moves gone) job vsn place
+target_left : (moves : ByNumber Moving) (gone job : ℕ) (vsn : List ℕ) (place : ℕ) → HasTarget (map.remove moves gone) job vsn place
     → HasTarget moves job vsn place
 target_left moves gone job vsn place has =
     record { moving = has.moving; is = (removed numbers moves gone job has.moving has.is).1; covers = has.covers }
 
-has_left : (bitfiles : Numbered BitfileRow) (reservations : Numbered Reserved) (moves : Numbered Moving) (doubt : Option GroupRecord) (gone : ℕ)
+has_left : (bitfiles : ByNumber BitfileRow) (reservations : ByNumber Reserved) (moves : ByNumber Moving) (doubt : Option GroupRecord) (gone : ℕ)
     (o : Owner) (vsn : List ℕ) (place : ℕ)
     → HasPlace bitfiles reservations (map.remove moves gone) doubt o vsn place → HasPlace bitfiles reservations moves doubt o vsn place
 has_left bitfiles reservations moves doubt gone (Live b offset) vsn place has = has
@@ -56,8 +56,8 @@ has_left bitfiles reservations moves doubt gone (Reserving n offset) vsn place h
 has_left bitfiles reservations moves doubt gone (Target job) vsn place has = target_left moves gone job vsn place has
 has_left bitfiles reservations moves doubt gone (Doubted zone) vsn place has = has
 
-once_left : (contents : Numbered (List ℕ)) (volumes : Named VolumeRow) (images : Named Image) (reservations : Numbered Reserved)
-    (moves : Numbered Moving) (gone epoch b : ℕ) (c : Chunk)
+once_left : (contents : ByNumber (List ℕ)) (volumes : ByName VolumeRow) (images : ByName Image) (reservations : ByNumber Reserved)
+    (moves : ByNumber Moving) (gone epoch b : ℕ) (c : Chunk)
     → OnceLive contents volumes images reservations moves epoch b c
     → OnceLive contents volumes images reservations (map.remove moves gone) epoch b c
 once_left contents volumes images reservations moves gone epoch b c k = record {
@@ -76,8 +76,8 @@ once_left contents volumes images reservations moves gone epoch b c k = record {
   };
 }
 
-mount_once_left : (contents : Numbered (List ℕ)) (volumes : Named VolumeRow) (images : Named Image) (reservations : Numbered Reserved)
-    (moves : Numbered Moving) (gone epoch : ℕ) (o : Origin)
+mount_once_left : (contents : ByNumber (List ℕ)) (volumes : ByName VolumeRow) (images : ByName Image) (reservations : ByNumber Reserved)
+    (moves : ByNumber Moving) (gone epoch : ℕ) (o : Origin)
     → MountOnce contents volumes images reservations moves epoch o
     → MountOnce contents volumes images reservations (map.remove moves gone) epoch o
 mount_once_left contents volumes images reservations moves gone epoch (origin.New listed format) k = k
@@ -90,8 +90,8 @@ mount_once_left contents volumes images reservations moves gone epoch (origin.Ta
 mount_once_left contents volumes images reservations moves gone epoch (origin.Reuse next_epoch version reading) k = k
 
 -- a mount that is neither of the move's
-origin_left : (conf : GroupConf) (reservations : Numbered Reserved) (copies : Numbered CopyState) (moves : Numbered Moving)
-    (reuses : Numbered Reusing) (job q : ℕ) (x : Moving) (vsn : Vsn) (o : Origin)
+origin_left : (conf : GroupConf) (reservations : ByNumber Reserved) (copies : ByNumber CopyState) (moves : ByNumber Moving)
+    (reuses : ByNumber Reusing) (job q : ℕ) (x : Moving) (vsn : Vsn) (o : Origin)
     → map.get moves job ≡ Some x → q ≢ x.source → q ≢ x.target
     → OriginKept conf reservations copies moves reuses q vsn o → OriginKept conf reservations copies (map.remove moves job) reuses q vsn o
 origin_left conf reservations copies moves reuses job q x vsn (origin.New listed format) is source target k = k
@@ -126,27 +126,27 @@ origin_left conf reservations copies moves reuses job q x vsn (origin.Target oth
 origin_left conf reservations copies moves reuses job q x vsn (origin.Reuse next_epoch version reading) is source target k = k
 
 -- mounts for different jobs differ
-apart_by_job : (mounts : Numbered MountState) (p q j i : ℕ) (y z : MountState) → map.get mounts p ≡ Some y → map.get mounts q ≡ Some z
+apart_by_job : (mounts : ByNumber MountState) (p q j i : ℕ) (y z : MountState) → map.get mounts p ≡ Some y → map.get mounts q ≡ Some z
     → job_of y.origin i ≡ j → job_of z.origin i ≡ i → j ≢ i → p ≢ q
 apart_by_job mounts p q j i y z is at one two differ = λ same.
     let row = same_row (map.get mounts q) y z (ap (map.get mounts) (sym same) ∙ is) at in
     differ (sym one ∙ ap (λ (x : MountState). job_of x.origin i) row ∙ two)
 
 -- so are those of none
-apart_by_kind : (mounts : Numbered MountState) (p q : ℕ) (y z : MountState) → map.get mounts p ≡ Some y → map.get mounts q ≡ Some z
+apart_by_kind : (mounts : ByNumber MountState) (p q : ℕ) (y z : MountState) → map.get mounts p ≡ Some y → map.get mounts q ≡ Some z
     → is_of_move y.origin ≡ false → is_of_move z.origin ≡ true → p ≢ q
 apart_by_kind mounts p q y z is at none of = λ same.
     let row = same_row (map.get mounts q) y z (ap (map.get mounts) (sym same) ∙ is) at in
     let f = ap (λ (x : MountState). is_of_move x.origin) row in cc
 
 -- a row that is at neither of two keys stays when they go
-beside_two : (mounts : Numbered MountState) (p q k : ℕ) (x : MountState) → k ≢ p → k ≢ q → map.get mounts k ≡ Some x
+beside_two : (mounts : ByNumber MountState) (p q k : ℕ) (x : MountState) → k ≢ p → k ≢ q → map.get mounts k ≡ Some x
     → map.get (map.remove (map.remove mounts p) q) k ≡ Some x
 beside_two mounts p q k x one two is =
     removed-beside numbers (map.remove mounts p) q k two ∙ removed-beside numbers mounts p k one ∙ is
 
 -- and one that is left was there, at neither of them
-left_of_two : (mounts : Numbered MountState) (p q k : ℕ) (x : MountState) → map.get (map.remove (map.remove mounts p) q) k ≡ Some x
+left_of_two : (mounts : ByNumber MountState) (p q k : ℕ) (x : MountState) → map.get (map.remove (map.remove mounts p) q) k ≡ Some x
     → (k ≢ p) × (k ≢ q) × (map.get mounts k ≡ Some x)
 left_of_two mounts p q k x is =
     let one = removed numbers (map.remove mounts p) q k x is in
@@ -154,8 +154,8 @@ left_of_two mounts p q k x is =
     (two.0, one.0, two.1)
 
 -- a move that ends keeps the side
-pub side_move_ended : (entries : Numbered Entry) (contents : Numbered (List ℕ)) (taken : Numbered (Unit {0})) (requests : Numbered OpenRequest)
-    (g : ℕ) (committed deleted : Numbered (Unit {0})) (s : Side) (h : GroupId) (job : ℕ) (x : Moving)
+pub side_move_ended : (entries : ByNumber Entry) (contents : ByNumber (List ℕ)) (taken : ByNumber (Unit {0})) (requests : ByNumber OpenRequest)
+    (g : ℕ) (committed deleted : ByNumber (Unit {0})) (s : Side) (h : GroupId) (job : ℕ) (x : Moving)
     → map.get s.group.moves job ≡ Some x
     → SideKept entries contents taken requests g committed deleted s
     → SideKept entries contents taken requests g committed deleted (side_after_ending (ending.Move h job x.source x.target) s)

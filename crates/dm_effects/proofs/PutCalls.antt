@@ -16,7 +16,7 @@ use Rattle.dm_durable.specs.declared.daemon.DaemonStep.TheVariants.{BeginPut}
 use Rattle.dm_durable.specs.declared.daemon.DaemonTables.{DaemonTables}
 use Rattle.dm_durable.specs.declared.daemon.Entry.{Entry}
 use Rattle.dm_durable.specs.declared.daemon.Inode.{Inode}
-use Rattle.dm_durable.specs.Tables.{Numbered}
+use Rattle.dm_durable.specs.Tables.{ByNumber}
 use Rattle.dm_model.specs.declared.answer.Answer.{Answer}
 use Rattle.dm_model.specs.declared.call.DaemonCall.TheVariants as call
 use Rattle.dm_model.specs.declared.plan.Ending.TheVariants as ending
@@ -41,7 +41,7 @@ use Rattle.dm_effects.proofs.PutEnded.{put_ended}
 
 -- ---- a put ends
 
-unreserved : (sides : Numbered Side) (b : ℕ) → is_reserved sides b ≡ false → EachRow sides (λ g s. IsUnreserved s.copies b)
+unreserved : (sides : ByNumber Side) (b : ℕ) → is_reserved sides b ≡ false → EachRow sides (λ g s. IsUnreserved s.copies b)
 unreserved sides b none = λ g s at c copy.
     let fails = any-false numbers (λ g s. has_reservation (map.get s.copies b)) sides none g s at in
     no_value c.reservation (ap has_reservation (sym copy) ∙ fails)

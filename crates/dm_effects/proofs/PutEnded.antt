@@ -10,7 +10,7 @@ use Rattle.dm_durable.specs.declared.daemon.DaemonRecord.{DaemonRecord}
 use Rattle.dm_durable.specs.declared.daemon.DaemonStep.{DaemonStep}
 use Rattle.dm_durable.specs.declared.daemon.DaemonStep.TheVariants.{Write, Remove, BeginPut, Stored, EndPut, Release, Taken, Dump, Undump, Restore, HardDelete, Dropped, Restart, Age}
 use Rattle.dm_durable.specs.declared.daemon.DaemonTables.{DaemonTables}
-use Rattle.dm_durable.specs.Tables.{Numbered}
+use Rattle.dm_durable.specs.Tables.{ByNumber}
 use Rattle.dm_model.specs.declared.plan.Ending.TheVariants as ending
 use Rattle.dm_model.specs.declared.state.CopyState.{CopyState}
 use Rattle.dm_model.specs.declared.state.Group.{Group}
@@ -32,14 +32,14 @@ use Rattle.dm_effects.proofs.SidesRequests.{side_copies_stay}
 -- ---- the sides of some groups change
 
 -- what a change of a side keeps is kept of all
-pub each_at_each : (P : ℕ → Side → Type 0) (f : Side → Side) (gs : List GroupId) (sides : Numbered Side) → ((g : ℕ) (s : Side) → P g s → P g (f s))
+pub each_at_each : (P : ℕ → Side → Type 0) (f : Side → Side) (gs : List GroupId) (sides : ByNumber Side) → ((g : ℕ) (s : Side) → P g s → P g (f s))
     → EachRow sides P → EachRow (at_each f gs sides) P
 each_at_each P f [] sides step each = each
 each_at_each P f (g ∷ gs) sides step each =
     each_at_each P f gs (adjust sides g.0 f) step (each-adjust numbers P sides g.0 f (λ s e. step g.0 s (each g.0 s e)) each)
 
 -- what a change of a side brings about holds of each of these groups, where it stays
-pub each_changed : (P : Side → Type 0) (f : Side → Side) (gs : List GroupId) (sides : Numbered Side) → ((s : Side) → P (f s))
+pub each_changed : (P : Side → Type 0) (f : Side → Side) (gs : List GroupId) (sides : ByNumber Side) → ((s : Side) → P (f s))
     → EachRow sides (λ g s. NumberAmong g gs ⊎ P s) → EachRow (at_each f gs sides) (λ g s. P s)
 each_changed P f [] sides made each = λ g s is. elim (each g s is) [ inl among ↦ absurd among.among | inr p ↦ p ]
 each_changed P f (h ∷ gs) sides made each =
@@ -53,12 +53,12 @@ each_changed P f (h ∷ gs) sides made each =
     ])
 
 -- the same groups, with the same of each
-pub record GroupsSame (sides later : Numbered Side) : Type 0 where
+pub record GroupsSame (sides later : ByNumber Side) : Type 0 where
   pub stays : EachRow sides (λ g s. (x : Side) × (map.get later g ≡ Some x) × (x.group ≡ s.group))
   pub comes : EachRow later (λ g x. (s : Side) × (map.get sides g ≡ Some s) × (x.group ≡ s.group))
 
 module _ (f : Side → Side) (same : (s : Side) → (f s).group ≡ s.group) where
-  groups_adjusted : (g : ℕ) (sides : Numbered Side) → GroupsSame sides (adjust sides g f)
+  groups_adjusted : (g : ℕ) (sides : ByNumber Side) → GroupsSame sides (adjust sides g f)
   groups_adjusted g sides = record {
     stays = λ h s is.
         elim (same_or numbers g h) [
@@ -72,7 +72,7 @@ module _ (f : Side → Side) (same : (s : Side) → (f s).group ≡ s.group) whe
         ];
   }
 
-  pub groups_at_each : (gs : List GroupId) (sides : Numbered Side) → GroupsSame sides (at_each f gs sides)
+  pub groups_at_each : (gs : List GroupId) (sides : ByNumber Side) → GroupsSame sides (at_each f gs sides)
   groups_at_each [] sides = record { stays = λ g s is. (s, is, refl); comes = λ g x is. (x, is, refl) }
   groups_at_each (g ∷ gs) sides =
       let one = groups_adjusted g.0 sides in
@@ -90,14 +90,14 @@ module _ (f : Side → Side) (same : (s : Side) → (f s).group ≡ s.group) whe
 
 -- ---- a step in doubt
 
-module _ (sides later : Numbered Side) (on : GroupsSame sides later) where
+module _ (sides later : ByNumber Side) (on : GroupsSame sides later) where
   pub there_later : (g : ℕ) → IsSome (map.get sides g) → IsSome (map.get later g)
   there_later g there =
       let s = value_of (map.get sides g) there in
       let x = on.stays g s.0 s.1 in
       has_value (map.get later g) x.0 x.1
 
-  needs_later : (t : DaemonTables) (requests : Numbered OpenRequest) (contents : Numbered (List ℕ)) (cap : ℕ) (s : DaemonStep)
+  needs_later : (t : DaemonTables) (requests : ByNumber OpenRequest) (contents : ByNumber (List ℕ)) (cap : ℕ) (s : DaemonStep)
       → StepNeeds t requests contents cap sides s → StepNeeds t requests contents cap later s
   needs_later t requests contents cap (Write path change bytes) needs = needs
   needs_later t requests contents cap (Remove path change) needs = needs
@@ -122,7 +122,7 @@ module _ (sides later : Numbered Side) (on : GroupsSame sides later) where
   needs_later t requests contents cap Restart needs = needs
   needs_later t requests contents cap (Age age) needs = needs
 
-  pub lands_later : (t : DaemonTables) (requests : Numbered OpenRequest) (contents : Numbered (List ℕ)) (cap : ℕ) (o : Option DaemonRecord)
+  pub lands_later : (t : DaemonTables) (requests : ByNumber OpenRequest) (contents : ByNumber (List ℕ)) (cap : ℕ) (o : Option DaemonRecord)
       → MayLandIf t requests contents cap sides o → MayLandIf t requests contents cap later o
   lands_later t requests contents cap None lands = tt
   lands_later t requests contents cap (Some r) lands =
@@ -142,7 +142,7 @@ module _ (j : Joint) (kept : InvariantHolds j) (w k : ℕ) (r : OpenRequest) (is
   f = side_after_ending (ending.Put k r.bfid groups)
 
   -- a side as it is kept, with other requests open
-  abbrev SideBeside : Numbered OpenRequest → ℕ → Side → Type 0
+  abbrev SideBeside : ByNumber OpenRequest → ℕ → Side → Type 0
   SideBeside requests g s =
       let o = map.get j.history.groups g in
       SideKept j.daemon.tables.entries j.history.contents j.history.taken requests g (committed_in o) (deleted_in o) s

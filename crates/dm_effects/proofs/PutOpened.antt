@@ -8,7 +8,7 @@ use Rattle.dm_tables.proofs.Adjusted.{adjusted, adjusted-beside}
 use Rattle.dm_tables.proofs.Orders.{numbers}
 use Rattle.dm_durable.specs.DaemonConditions.{OneOrTwo}
 use Rattle.dm_durable.specs.Entries.{groups_asked}
-use Rattle.dm_durable.specs.Tables.{Numbered}
+use Rattle.dm_durable.specs.Tables.{ByNumber}
 use Rattle.dm_model.specs.declared.plan.Opening.TheVariants as opening
 use Rattle.dm_model.specs.declared.state.CopyState.{CopyState}
 use Rattle.dm_model.specs.declared.state.Joint.{Joint}
@@ -26,12 +26,12 @@ use Rattle.dm_effects.proofs.RequestsOpened.{RequestOpens, number_free, requests
 use Rattle.dm_effects.proofs.SidesRequests.{side_puts_stay, puts_stay_with}
 
 -- a side of the tables after a change at each of these groups was one that is among them and changed, or one that isn't
-record ChangedSide (f : Side → Side) (groups : List GroupId) (sides : Numbered Side) (g : ℕ) (s : Side) : Type 0 where
+record ChangedSide (f : Side → Side) (groups : List GroupId) (sides : ByNumber Side) (g : ℕ) (s : Side) : Type 0 where
   pub side : Side
   pub is : map.get sides g ≡ Some side
   pub how : (NumberAmong g groups × (s ≡ f side)) ⊎ (s ≡ side)
 
-changed_side : (f : Side → Side) (groups : List GroupId) (sides : Numbered Side) → OneOrTwo groups → (g : ℕ) (s : Side)
+changed_side : (f : Side → Side) (groups : List GroupId) (sides : ByNumber Side) → OneOrTwo groups → (g : ℕ) (s : Side)
     → map.get (at_each f groups sides) g ≡ Some s → ChangedSide f groups sides g s
 changed_side f [] sides some g s is = absurd some
 changed_side f (h ∷ []) sides some g s is =

@@ -6,7 +6,7 @@ use Rattle.dm_tables.specs.Rows.{adjust}
 use Rattle.dm_tables.proofs.Orders.{numbers}
 use Rattle.dm_tables.proofs.Rows.{removed, removed-beside, each-remove, one_row}
 use Rattle.dm_tables.proofs.Adjusted.{adjusted}
-use Rattle.dm_durable.specs.Tables.{Numbered}
+use Rattle.dm_durable.specs.Tables.{ByNumber}
 use Rattle.dm_durable.specs.declared.daemon.DaemonRecord.{DaemonRecord}
 use Rattle.dm_durable.specs.declared.daemon.DaemonStep.{DaemonStep}
 use Rattle.dm_durable.specs.declared.daemon.DaemonStep.TheVariants.{Write, Remove, BeginPut, Stored, EndPut, Release, Taken, Dump, Undump, Restore, HardDelete, Dropped, Restart, Age}
@@ -32,8 +32,8 @@ recall_no_put kind.Put e = cc
 recall_no_put kind.Recall e = refl
 
 -- what is kept of open requests is kept without one of them
-pub requests_without : (requests : Numbered OpenRequest) (next k : ℕ) (inodes : Numbered Inode) (entries : Numbered Entry)
-    (contents : Numbered (List ℕ))
+pub requests_without : (requests : ByNumber OpenRequest) (next k : ℕ) (inodes : ByNumber Inode) (entries : ByNumber Entry)
+    (contents : ByNumber (List ℕ))
     → RequestsKept requests next inodes entries contents → RequestsKept (map.remove requests k) next inodes entries contents
 requests_without requests next k inodes entries contents kept = record {
   numbers = each-remove numbers (λ q r. q < next) requests k kept.numbers;
@@ -51,7 +51,7 @@ requests_without requests next k inodes entries contents kept = record {
 -- ---- a step in doubt
 
 -- a put that is open without a request was open
-put_was : (requests : Numbered OpenRequest) (k b : ℕ) → PutOpen (map.remove requests k) b → PutOpen requests b
+put_was : (requests : ByNumber OpenRequest) (k b : ℕ) → PutOpen (map.remove requests k) b → PutOpen requests b
 put_was requests k b put = record {
   number = put.number;
   request = put.request;
@@ -60,7 +60,7 @@ put_was requests k b put = record {
   same = put.same;
 }
 
-needs_without : (t : DaemonTables) (requests : Numbered OpenRequest) (k : ℕ) (contents : Numbered (List ℕ)) (cap : ℕ) (sides : Numbered Side)
+needs_without : (t : DaemonTables) (requests : ByNumber OpenRequest) (k : ℕ) (contents : ByNumber (List ℕ)) (cap : ℕ) (sides : ByNumber Side)
     (s : DaemonStep) → StepNeeds t requests contents cap sides s → StepNeeds t (map.remove requests k) contents cap sides s
 needs_without t requests k contents cap sides (Write path change bytes) needs = needs
 needs_without t requests k contents cap sides (Remove path change) needs = needs
@@ -80,7 +80,7 @@ needs_without t requests k contents cap sides Restart needs = needs
 needs_without t requests k contents cap sides (Age age) needs = needs
 
 -- a step in doubt may still land
-pub doubt_without : (t : DaemonTables) (requests : Numbered OpenRequest) (k : ℕ) (contents : Numbered (List ℕ)) (cap : ℕ) (sides : Numbered Side)
+pub doubt_without : (t : DaemonTables) (requests : ByNumber OpenRequest) (k : ℕ) (contents : ByNumber (List ℕ)) (cap : ℕ) (sides : ByNumber Side)
     (o : Option DaemonRecord) → MayLandIf t requests contents cap sides o → MayLandIf t (map.remove requests k) contents cap sides o
 doubt_without t requests k contents cap sides None lands = tt
 doubt_without t requests k contents cap sides (Some r) lands =
@@ -89,7 +89,7 @@ doubt_without t requests k contents cap sides (Some r) lands =
 -- ---- recalls
 
 -- a recall is kept where its request is the same
-pub recall_still : (requests later : Numbered OpenRequest) (entries : Numbered Entry) (contents : Numbered (List ℕ)) (q : ℕ) (recall : Recall)
+pub recall_still : (requests later : ByNumber OpenRequest) (entries : ByNumber Entry) (contents : ByNumber (List ℕ)) (q : ℕ) (recall : Recall)
     → (k : RecallKept requests entries contents q recall) → map.get later q ≡ Some k.request → RecallKept later entries contents q recall
 recall_still requests later entries contents q recall k is = record {
   request = k.request;
@@ -104,14 +104,14 @@ recall_still requests later entries contents q recall k is = record {
 }
 
 -- a recall is kept where another request ends
-recall_beside : (requests : Numbered OpenRequest) (k q : ℕ) (recall : Recall) (entries : Numbered Entry) (contents : Numbered (List ℕ)) → (q ≡ k → ⊥)
+recall_beside : (requests : ByNumber OpenRequest) (k q : ℕ) (recall : Recall) (entries : ByNumber Entry) (contents : ByNumber (List ℕ)) → (q ≡ k → ⊥)
     → RecallKept requests entries contents q recall → RecallKept (map.remove requests k) entries contents q recall
 recall_beside requests k q recall entries contents differ kept =
     recall_still requests (map.remove requests k) entries contents q recall kept (removed-beside numbers requests k q differ ∙ kept.is)
 
 -- the recalls of workers are kept where a put ends
-pub recalls_put_ended : (workers : Numbered Worker) (requests : Numbered OpenRequest) (k : ℕ) (r : OpenRequest) (entries : Numbered Entry)
-    (contents : Numbered (List ℕ))
+pub recalls_put_ended : (workers : ByNumber Worker) (requests : ByNumber OpenRequest) (k : ℕ) (r : OpenRequest) (entries : ByNumber Entry)
+    (contents : ByNumber (List ℕ))
     → map.get requests k ≡ Some r → is_put r.kind ≡ true
     → RecallsKept workers requests entries contents → RecallsKept workers (map.remove requests k) entries contents
 recalls_put_ended workers requests k r entries contents is put kept = record {
@@ -128,7 +128,7 @@ recalls_put_ended workers requests k r entries contents is put kept = record {
 }
 
 -- the recalls of a worker are those that it had
-had_left : (workers : Numbered Worker) (w k v q : ℕ) (y : Worker) (s : Recall) → map.get (adjust workers w (without_recall k)) v ≡ Some y
+had_left : (workers : ByNumber Worker) (w k v q : ℕ) (y : Worker) (s : Recall) → map.get (adjust workers w (without_recall k)) v ≡ Some y
     → map.get y.recalls q ≡ Some s → (x : Worker) × (map.get workers v ≡ Some x) × (map.get x.recalls q ≡ Some s)
 had_left workers w k v q y s e has =
     elim (adjusted numbers workers w (without_recall k) v y e) [
@@ -140,7 +140,7 @@ had_left workers w k v q y s e has =
     ]
 
 -- and none of them is the one that ended
-left_beside : (workers : Numbered Worker) (w k v q : ℕ) (y : Worker) (s : Recall) → map.get (adjust workers w (without_recall k)) v ≡ Some y
+left_beside : (workers : ByNumber Worker) (w k v q : ℕ) (y : Worker) (s : Recall) → map.get (adjust workers w (without_recall k)) v ≡ Some y
     → map.get y.recalls q ≡ Some s → v ≡ w → q ≡ k → ⊥
 left_beside workers w k v q y s e has same =
     elim (adjusted numbers workers w (without_recall k) v y e) [
@@ -152,8 +152,8 @@ left_beside workers w k v q y s e has same =
     ]
 
 -- the recalls of workers are kept where a recall of one of them ends
-pub recalls_recall_ended : (workers : Numbered Worker) (requests : Numbered OpenRequest) (w k : ℕ) (x : Worker) (recall : Recall)
-    (entries : Numbered Entry) (contents : Numbered (List ℕ))
+pub recalls_recall_ended : (workers : ByNumber Worker) (requests : ByNumber OpenRequest) (w k : ℕ) (x : Worker) (recall : Recall)
+    (entries : ByNumber Entry) (contents : ByNumber (List ℕ))
     → map.get workers w ≡ Some x → map.get x.recalls k ≡ Some recall
     → RecallsKept workers requests entries contents
     → RecallsKept (adjust workers w (without_recall k)) (map.remove requests k) entries contents

@@ -7,7 +7,7 @@ use Rattle.dm_base.specs.declared.identifier.GroupId.{GroupId}
 use Rattle.dm_tables.specs.Rows.{EachRow}
 use Rattle.dm_tables.proofs.Orders.{numbers}
 use Rattle.dm_tables.proofs.Rows.{each-empty, each-insert, inserted, get-here}
-use Rattle.dm_durable.specs.Tables.{Numbered}
+use Rattle.dm_durable.specs.Tables.{ByNumber}
 use Rattle.dm_durable.specs.declared.daemon.Entry.{Entry}
 use Rattle.dm_durable.specs.declared.daemon.Inode.{Inode}
 use Rattle.dm_model.specs.declared.state.OpenRequest.{OpenRequest}
@@ -23,8 +23,8 @@ use Rattle.dm_effects.proofs.RequestsEnded.{recall_no_put, recall_still}
 -- ---- requests
 
 -- what a new request needs: its entry and content are there, its file is as it says, and it is the one put of its bitfile
-pub record RequestOpens (requests : Numbered OpenRequest) (next : ℕ) (inodes : Numbered Inode) (entries : Numbered Entry)
-    (contents : Numbered (List ℕ)) (k : ℕ) (r : OpenRequest) : Type 0 where
+pub record RequestOpens (requests : ByNumber OpenRequest) (next : ℕ) (inodes : ByNumber Inode) (entries : ByNumber Entry)
+    (contents : ByNumber (List ℕ)) (k : ℕ) (r : OpenRequest) : Type 0 where
   pub new : next ≤ k
   pub entry : RequestEntry entries r
   pub content : RequestContent entries contents r.bfid.0
@@ -33,16 +33,16 @@ pub record RequestOpens (requests : Numbered OpenRequest) (next : ℕ) (inodes :
   pub alone : is_put r.kind ≡ true → NoPutOf requests r.bfid.0
 
 -- a number that is not below the next is free
-free_if : (requests : Numbered OpenRequest) (next k : ℕ) (o : Option OpenRequest) → EachRow requests (λ q r. q < next) → next ≤ k
+free_if : (requests : ByNumber OpenRequest) (next k : ℕ) (o : Option OpenRequest) → EachRow requests (λ q r. q < next) → next ≤ k
     → map.get requests k ≡ o → o ≡ None
 free_if requests next k None below new is = refl
 free_if requests next k (Some r) below new is = let b = below k r is in absurd (omega (arith, b, new))
 
-pub number_free : (requests : Numbered OpenRequest) (next k : ℕ) → EachRow requests (λ q r. q < next) → next ≤ k → map.get requests k ≡ None
+pub number_free : (requests : ByNumber OpenRequest) (next k : ℕ) → EachRow requests (λ q r. q < next) → next ≤ k → map.get requests k ≡ None
 number_free requests next k below new = free_if requests next k (map.get requests k) below new refl
 
 -- a put of the bitfile of a new request is the new one, where no put of it was open
-put_among : (requests : Numbered OpenRequest) (k q : ℕ) (r s : OpenRequest) → NoPutOf requests r.bfid.0 → map.get (map.insert requests k r) q ≡ Some s
+put_among : (requests : ByNumber OpenRequest) (k q : ℕ) (r s : OpenRequest) → NoPutOf requests r.bfid.0 → map.get (map.insert requests k r) q ≡ Some s
     → is_put s.kind ≡ true → s.bfid.0 ≡ r.bfid.0 → q ≡ k
 put_among requests k q r s alone e put same =
     elim (inserted numbers requests k r q s e) [
@@ -51,7 +51,7 @@ put_among requests k q r s alone e put same =
     ]
 
 -- a bitfile has one put, where the new request is no put or is the only one of its bitfile
-puts_apart_with : (requests : Numbered OpenRequest) (k : ℕ) (r : OpenRequest) → (is_put r.kind ≡ true → NoPutOf requests r.bfid.0)
+puts_apart_with : (requests : ByNumber OpenRequest) (k : ℕ) (r : OpenRequest) → (is_put r.kind ≡ true → NoPutOf requests r.bfid.0)
     → ((p q : ℕ) (s u : OpenRequest) → map.get requests p ≡ Some s → map.get requests q ≡ Some u → is_put s.kind ≡ true
     → is_put u.kind ≡ true → s.bfid.0 ≡ u.bfid.0 → p ≡ q)
     → (p q : ℕ) (s u : OpenRequest) → map.get (map.insert requests k r) p ≡ Some s → map.get (map.insert requests k r) q ≡ Some u
@@ -69,7 +69,7 @@ puts_apart_with requests k r alone apart p q s u e f put other same =
       ]
     ]
 
-number_below : (requests : Numbered OpenRequest) (next k : ℕ) (r : OpenRequest) → next ≤ k → EachRow requests (λ q s. q < next)
+number_below : (requests : ByNumber OpenRequest) (next k : ℕ) (r : OpenRequest) → next ≤ k → EachRow requests (λ q s. q < next)
     → EachRow (map.insert requests k r) (λ q s. q < k + 1)
 number_below requests next k r new below = λ q s is.
     elim (inserted numbers requests k r q s is) [
@@ -78,8 +78,8 @@ number_below requests next k r new below = λ q s is.
     ]
 
 -- what is kept of open requests is kept with one more
-pub requests_with : (requests : Numbered OpenRequest) (next k : ℕ) (r : OpenRequest) (inodes : Numbered Inode) (entries : Numbered Entry)
-    (contents : Numbered (List ℕ))
+pub requests_with : (requests : ByNumber OpenRequest) (next k : ℕ) (r : OpenRequest) (inodes : ByNumber Inode) (entries : ByNumber Entry)
+    (contents : ByNumber (List ℕ))
     → RequestOpens requests next inodes entries contents k r → RequestsKept requests next inodes entries contents
     → RequestsKept (map.insert requests k r) (k + 1) inodes entries contents
 requests_with requests next k r inodes entries contents opens kept = record {
@@ -98,15 +98,15 @@ requests_with requests next k r inodes entries contents opens kept = record {
 
 -- ---- recalls
 
-recall_with : (requests : Numbered OpenRequest) (k q : ℕ) (r : OpenRequest) (recall : Recall) (entries : Numbered Entry)
-    (contents : Numbered (List ℕ))
+recall_with : (requests : ByNumber OpenRequest) (k q : ℕ) (r : OpenRequest) (recall : Recall) (entries : ByNumber Entry)
+    (contents : ByNumber (List ℕ))
     → map.get requests k ≡ None → RecallKept requests entries contents q recall → RecallKept (map.insert requests k r) entries contents q recall
 recall_with requests k q r recall entries contents free kept =
     recall_still requests (map.insert requests k r) entries contents q recall kept (beside_free numbers requests k q r kept.request free kept.is)
 
 -- the recalls of workers are kept where a request opens
-pub recalls_request_opened : (workers : Numbered Worker) (requests : Numbered OpenRequest) (k : ℕ) (r : OpenRequest) (entries : Numbered Entry)
-    (contents : Numbered (List ℕ))
+pub recalls_request_opened : (workers : ByNumber Worker) (requests : ByNumber OpenRequest) (k : ℕ) (r : OpenRequest) (entries : ByNumber Entry)
+    (contents : ByNumber (List ℕ))
     → RecallsKept workers requests entries contents → map.get requests k ≡ None
     → RecallsKept workers (map.insert requests k r) entries contents
 recalls_request_opened workers requests k r entries contents kept free = record {
@@ -115,7 +115,7 @@ recalls_request_opened workers requests k r entries contents kept free = record 
 }
 
 -- a recall that opens has the request's bitfile, its length and its groups, and no reads yet
-pub record RecallOpens (entries : Numbered Entry) (contents : Numbered (List ℕ)) (r : OpenRequest) (recall : Recall) : Type 0 where
+pub record RecallOpens (entries : ByNumber Entry) (contents : ByNumber (List ℕ)) (r : OpenRequest) (recall : Recall) : Type 0 where
   pub kind : is_recall r.kind ≡ true
   pub same : r.bfid ≡ recall.bfid
   pub bytes : List ℕ
@@ -125,19 +125,19 @@ pub record RecallOpens (entries : Numbered Entry) (contents : Numbered (List ℕ
   pub reads : recall.reads ≡ map.empty
 
 -- a recall of a worker of which something is known
-worker_has : (workers : Numbered Worker) (w q : ℕ) (s : Recall) (o : Option Worker) → map.get workers w ≡ o → map.get (worker_or o).recalls q ≡ Some s
+worker_has : (workers : ByNumber Worker) (w q : ℕ) (s : Recall) (o : Option Worker) → map.get workers w ≡ o → map.get (worker_or o).recalls q ≡ Some s
     → (x : Worker) × (map.get workers w ≡ Some x) × (map.get x.recalls q ≡ Some s)
 worker_has workers w q s None e has = let none = get-empty {X = Recall} nat_cmp q in absurd (cc)
 worker_has workers w q s (Some x) e has = (x, e, has)
 
 -- each recall of a worker is the new one of that worker, or one that it had
-had_or : (workers : Numbered Worker) (w k : ℕ) (recall : Recall) (v q : ℕ) (y : Worker) (s : Recall)
+had_or : (workers : ByNumber Worker) (w k : ℕ) (recall : Recall) (v q : ℕ) (y : Worker) (s : Recall)
     → map.get (map.insert workers w (with_recall k recall (worker_or (map.get workers w)))) v ≡ Some y → map.get y.recalls q ≡ Some s
     → ((v ≡ w) × (q ≡ k) × (s ≡ recall)) ⊎ ((x : Worker) × (map.get workers v ≡ Some x) × (map.get x.recalls q ≡ Some s))
 had_or workers w k recall v q y s e has =
     elim (inserted numbers workers w (with_recall k recall (worker_or (map.get workers w))) v y e) [
       | inl at ↦
-          let old : Numbered Recall = (worker_or (map.get workers w)).recalls in
+          let old : ByNumber Recall = (worker_or (map.get workers w)).recalls in
           let here : map.get (map.insert old k recall) q ≡ Some s = subst (λ (z : Worker). map.get z.recalls q ≡ Some s) at.1 has in
           elim (inserted numbers old k recall q s here) [
             | inl new ↦ inl (at.0, new.0, new.1)
@@ -148,7 +148,7 @@ had_or workers w k recall v q y s e has =
       | inr other ↦ inr (y, other.1, has)
     ]
 
-module _ (workers : Numbered Worker) (requests : Numbered OpenRequest) (entries : Numbered Entry) (contents : Numbered (List ℕ)) (w k : ℕ)
+module _ (workers : ByNumber Worker) (requests : ByNumber OpenRequest) (entries : ByNumber Entry) (contents : ByNumber (List ℕ)) (w k : ℕ)
     (r : OpenRequest) (recall : Recall) (kept : RecallsKept workers requests entries contents) (free : map.get requests k ≡ None)
     (opens : RecallOpens entries contents r recall) where
   -- no worker has a recall of a free number
@@ -169,7 +169,7 @@ module _ (workers : Numbered Worker) (requests : Numbered OpenRequest) (entries 
     len = opens.len;
     asked = opens.asked;
     reads =
-        subst (λ (m : Numbered (Numbered (List ℕ))). EachRow m (λ g parts. EachRow parts (λ offset part. PartAt opens.bytes offset part)))
+        subst (λ (m : ByNumber (ByNumber (List ℕ))). EachRow m (λ g parts. EachRow parts (λ offset part. PartAt opens.bytes offset part)))
         (sym opens.reads) (each-empty _ _);
   }
 

@@ -14,7 +14,7 @@ use Rattle.dm_durable.specs.declared.daemon.Entry.{Entry}
 use Rattle.dm_durable.specs.declared.group.BitfileRow.{BitfileRow}
 use Rattle.dm_durable.specs.declared.group.GroupRecord.{GroupRecord}
 use Rattle.dm_durable.specs.declared.group.VolumeRow.{VolumeRow}
-use Rattle.dm_durable.specs.Tables.{Numbered, Named}
+use Rattle.dm_durable.specs.Tables.{ByNumber, ByName}
 use Rattle.dm_model.specs.declared.plan.Ending.TheVariants as ending
 use Rattle.dm_model.specs.declared.state.CopyReservation.{CopyReservation}
 use Rattle.dm_model.specs.declared.state.CopyState.{CopyState}
@@ -37,17 +37,17 @@ use Rattle.dm_invariant.proofs.LookUps.{none_in_empty}
 use Rattle.dm_effects.proofs.Uses.{FewerUses, doubt_fewer, open_of}
 
 -- the reservation of the bitfile ends, and no piece of it is mounted
-pub record ReservationEnds (reservations : Numbered Reserved) (copies : Numbered CopyState) (n b : ℕ) : Type 0 where
+pub record ReservationEnds (reservations : ByNumber Reserved) (copies : ByNumber CopyState) (n b : ℕ) : Type 0 where
   pub reserved : Reserved
   pub is : map.get reservations n ≡ Some reserved
   pub same : reserved.bfid.0 ≡ b
   pub free : (c : CopyState) (held : CopyReservation) → map.get copies b ≡ Some c → c.reservation ≡ Some held → map.len held.mounts ≡ 0
 
-module _ (reservations : Numbered Reserved) (copies : Numbered CopyState) (n b : ℕ) (ends : ReservationEnds reservations copies n b) where
-  abbrev left : Numbered Reserved
+module _ (reservations : ByNumber Reserved) (copies : ByNumber CopyState) (n b : ℕ) (ends : ReservationEnds reservations copies n b) where
+  abbrev left : ByNumber Reserved
   left = map.remove reservations n
 
-  abbrev unreserved : Numbered CopyState
+  abbrev unreserved : ByNumber CopyState
   unreserved = adjust copies b (with_reservation None)
 
   -- a reservation of another bitfile has another number
@@ -57,7 +57,7 @@ module _ (reservations : Numbered Reserved) (copies : Numbered CopyState) (n b :
       (same_row (map.get reservations n) r ends.reserved (ap (map.get reservations) (sym same) ∙ is) ends.is) ∙ ends.same)
 
   -- a mount of a piece is of another bitfile
-  origin_left : (conf : GroupConf) (moves : Numbered Moving) (reuses : Numbered Reusing) (m : ℕ) (vsn : Vsn) (o : Origin)
+  origin_left : (conf : GroupConf) (moves : ByNumber Moving) (reuses : ByNumber Reusing) (m : ℕ) (vsn : Vsn) (o : Origin)
       → OriginKept conf reservations copies moves reuses m vsn o → OriginKept conf left unreserved moves reuses m vsn o
   origin_left conf moves reuses m vsn (origin.New listed format) k = k
   origin_left conf moves reuses m vsn (origin.Piece q index p chunk) k =
@@ -83,7 +83,7 @@ module _ (reservations : Numbered Reserved) (copies : Numbered CopyState) (n b :
   origin_left conf moves reuses m vsn (origin.Reuse next_epoch version reading) k = k
 
   -- the others have their copies
-  reservations_left : (bitfiles : Numbered BitfileRow) (volumes : Named VolumeRow) (tips : Named ℕ) (images : Named Image)
+  reservations_left : (bitfiles : ByNumber BitfileRow) (volumes : ByName VolumeRow) (tips : ByName ℕ) (images : ByName Image)
       → EachRow reservations (ReservationKept bitfiles volumes tips images copies)
       → EachRow left (ReservationKept bitfiles volumes tips images unreserved)
   reservations_left bitfiles volumes tips images each = λ q r is.
@@ -109,7 +109,7 @@ module _ (reservations : Numbered Reserved) (copies : Numbered CopyState) (n b :
       }
 
   -- the copy has none any more
-  copies_left : (g : ℕ) (entries : Numbered Entry) (contents : Numbered (List ℕ)) (requests : Numbered OpenRequest)
+  copies_left : (g : ℕ) (entries : ByNumber Entry) (contents : ByNumber (List ℕ)) (requests : ByNumber OpenRequest)
       → EachRow copies (CopyKept g entries contents requests reservations)
       → EachRow unreserved (CopyKept g entries contents requests left)
   copies_left g entries contents requests each = λ q c is.
@@ -143,7 +143,7 @@ module _ (reservations : Numbered Reserved) (copies : Numbered CopyState) (n b :
       ]
 
 -- who has a place of a reservation that is left had it before
-kept_left : (reservations : Numbered Reserved) (n k offset : ℕ) (vsn : List ℕ) (place : ℕ) → HasReserving (map.remove reservations n) k offset vsn place
+kept_left : (reservations : ByNumber Reserved) (n k offset : ℕ) (vsn : List ℕ) (place : ℕ) → HasReserving (map.remove reservations n) k offset vsn place
     → HasReserving reservations k offset vsn place
 kept_left reservations n k offset vsn place has = record {
   reserved = has.reserved;
@@ -154,7 +154,7 @@ kept_left reservations n k offset vsn place has = record {
   covers = has.covers;
 }
 
-has_left : (bitfiles : Numbered BitfileRow) (reservations : Numbered Reserved) (moves : Numbered Moving) (doubt : Option GroupRecord) (n : ℕ)
+has_left : (bitfiles : ByNumber BitfileRow) (reservations : ByNumber Reserved) (moves : ByNumber Moving) (doubt : Option GroupRecord) (n : ℕ)
     (o : Owner) (vsn : List ℕ) (place : ℕ)
     → HasPlace bitfiles (map.remove reservations n) moves doubt o vsn place → HasPlace bitfiles reservations moves doubt o vsn place
 has_left bitfiles reservations moves doubt n (Live b offset) vsn place has = has
@@ -162,8 +162,8 @@ has_left bitfiles reservations moves doubt n (Reserving k offset) vsn place has 
 has_left bitfiles reservations moves doubt n (Target job) vsn place has = has
 has_left bitfiles reservations moves doubt n (Doubted zone) vsn place has = has
 
-once_left : (contents : Numbered (List ℕ)) (volumes : Named VolumeRow) (images : Named Image) (reservations : Numbered Reserved)
-    (moves : Numbered Moving) (n epoch b : ℕ) (c : Chunk)
+once_left : (contents : ByNumber (List ℕ)) (volumes : ByName VolumeRow) (images : ByName Image) (reservations : ByNumber Reserved)
+    (moves : ByNumber Moving) (n epoch b : ℕ) (c : Chunk)
     → OnceLive contents volumes images reservations moves epoch b c → OnceLive contents volumes images (map.remove reservations n) moves epoch b c
 once_left contents volumes images reservations moves n epoch b c k = record {
   volume = k.volume;
@@ -181,8 +181,8 @@ once_left contents volumes images reservations moves n epoch b c k = record {
   };
 }
 
-mount_once_left : (contents : Numbered (List ℕ)) (volumes : Named VolumeRow) (images : Named Image) (reservations : Numbered Reserved)
-    (moves : Numbered Moving) (n epoch : ℕ) (o : Origin)
+mount_once_left : (contents : ByNumber (List ℕ)) (volumes : ByName VolumeRow) (images : ByName Image) (reservations : ByNumber Reserved)
+    (moves : ByNumber Moving) (n epoch : ℕ) (o : Origin)
     → MountOnce contents volumes images reservations moves epoch o → MountOnce contents volumes images (map.remove reservations n) moves epoch o
 mount_once_left contents volumes images reservations moves n epoch (origin.New listed format) k = k
 mount_once_left contents volumes images reservations moves n epoch (origin.Piece b index p chunk) k = k
@@ -194,8 +194,8 @@ mount_once_left contents volumes images reservations moves n epoch (origin.Targe
 mount_once_left contents volumes images reservations moves n epoch (origin.Reuse next_epoch version reading) k = k
 
 -- a reservation that ends keeps the side
-pub side_reservation_ended : (entries : Numbered Entry) (contents : Numbered (List ℕ)) (taken : Numbered (Unit {0})) (requests : Numbered OpenRequest)
-    (g : ℕ) (committed deleted : Numbered (Unit {0})) (s : Side) (h : GroupId) (n : ℕ) (b : Bfid)
+pub side_reservation_ended : (entries : ByNumber Entry) (contents : ByNumber (List ℕ)) (taken : ByNumber (Unit {0})) (requests : ByNumber OpenRequest)
+    (g : ℕ) (committed deleted : ByNumber (Unit {0})) (s : Side) (h : GroupId) (n : ℕ) (b : Bfid)
     → ReservationEnds s.group.reservations s.copies n b.0
     → SideKept entries contents taken requests g committed deleted s
     → SideKept entries contents taken requests g committed deleted (side_after_ending (ending.Reservation h n b) s)

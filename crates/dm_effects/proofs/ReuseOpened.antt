@@ -13,7 +13,7 @@ use Rattle.dm_tables.proofs.Rows.{each-beside, get-beside, get-here}
 use Rattle.dm_durable.specs.declared.daemon.Entry.{Entry}
 use Rattle.dm_durable.specs.declared.group.GroupRecord.{GroupRecord}
 use Rattle.dm_durable.specs.declared.group.VolumeRow.{VolumeRow}
-use Rattle.dm_durable.specs.Tables.{Numbered}
+use Rattle.dm_durable.specs.Tables.{ByNumber}
 use Rattle.dm_durable.specs.Volumes.{epoch_or, tip_in}
 use Rattle.dm_model.specs.declared.plan.Opening.TheVariants as opening
 use Rattle.dm_model.specs.declared.state.CopyState.{CopyState}
@@ -50,14 +50,14 @@ pub record ReuseOpens (s : Side) (m epoch reading : ℕ) (x : Reusing) : Type 0 
   pub settled : s.group.doubt ≡ None
 
 -- nothing in doubt may land
-pub nothing_in_doubt : (g : ℕ) (entries : Numbered Entry) (contents : Numbered (List ℕ)) (taken deleted : Numbered (Unit {0})) (s : Side)
+pub nothing_in_doubt : (g : ℕ) (entries : ByNumber Entry) (contents : ByNumber (List ℕ)) (taken deleted : ByNumber (Unit {0})) (s : Side)
     (doubt : Option GroupRecord) → doubt ≡ None → GroupMayLandIf g entries contents taken deleted s doubt
 nothing_in_doubt g entries contents taken deleted s None none = tt
 nothing_in_doubt g entries contents taken deleted s (Some r) none = cc
 
 -- a mount with another number
-origin_more : (conf : GroupConf) (reservations : Numbered Reserved) (copies : Numbered CopyState) (moves : Numbered Moving)
-    (reuses : Numbered Reusing) (m q : ℕ) (x : Reusing) (vsn : Vsn) (o : Origin) → q ≢ m
+origin_more : (conf : GroupConf) (reservations : ByNumber Reserved) (copies : ByNumber CopyState) (moves : ByNumber Moving)
+    (reuses : ByNumber Reusing) (m q : ℕ) (x : Reusing) (vsn : Vsn) (o : Origin) → q ≢ m
     → OriginKept conf reservations copies moves reuses q vsn o → OriginKept conf reservations copies moves (map.insert reuses m x) q vsn o
 origin_more conf reservations copies moves reuses m q x vsn (origin.New listed format) apart k = k
 origin_more conf reservations copies moves reuses m q x vsn (origin.Piece b index p chunk) apart k = k
@@ -73,8 +73,8 @@ origin_more conf reservations copies moves reuses m q x vsn (origin.Reuse next_e
 }
 
 -- a reuse that begins keeps the side
-pub side_reuse_opened : (entries : Numbered Entry) (contents : Numbered (List ℕ)) (taken : Numbered (Unit {0})) (requests : Numbered OpenRequest)
-    (g : ℕ) (committed deleted : Numbered (Unit {0})) (s : Side) (h : GroupId) (m epoch : ℕ) (x : Reusing) (reading : ℕ)
+pub side_reuse_opened : (entries : ByNumber Entry) (contents : ByNumber (List ℕ)) (taken : ByNumber (Unit {0})) (requests : ByNumber OpenRequest)
+    (g : ℕ) (committed deleted : ByNumber (Unit {0})) (s : Side) (h : GroupId) (m epoch : ℕ) (x : Reusing) (reading : ℕ)
     → ReuseOpens s m epoch reading x
     → SideKept entries contents taken requests g committed deleted s
     → SideKept entries contents taken requests g committed deleted (side_after_opening (opening.Reuse h m epoch x reading) s)

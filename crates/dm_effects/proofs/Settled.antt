@@ -4,7 +4,7 @@ use Rattle.dm_durable.specs.declared.daemon.Entry.{Entry}
 use Rattle.dm_durable.specs.declared.group.GroupRecord.{GroupRecord}
 use Rattle.dm_durable.specs.declared.group.GroupStep.{GroupStep}
 use Rattle.dm_durable.specs.declared.group.GroupStep.TheVariants.{Volume, Commit, Delete, Move, Free, Reuse}
-use Rattle.dm_durable.specs.Tables.{Numbered}
+use Rattle.dm_durable.specs.Tables.{ByNumber}
 use Rattle.dm_model.specs.declared.plan.Payload.{Payload}
 use Rattle.dm_model.specs.declared.plan.Payload.TheVariants as payload
 use Rattle.dm_model.specs.declared.state.OpenRequest.{OpenRequest}
@@ -17,8 +17,8 @@ use Rattle.dm_landing.proofs.GroupLanded.{MayLandNow}
 use Rattle.dm_landing.proofs.GroupLanding.{places_settled}
 
 -- a heal leaves nothing in doubt
-pub side_healed : (entries : Numbered Entry) (contents : Numbered (List ℕ)) (taken : Numbered (Unit {0})) (requests : Numbered OpenRequest)
-    (g : ℕ) (committed deleted : Numbered (Unit {0})) (heals : Bool) (s : Side)
+pub side_healed : (entries : ByNumber Entry) (contents : ByNumber (List ℕ)) (taken : ByNumber (Unit {0})) (requests : ByNumber OpenRequest)
+    (g : ℕ) (committed deleted : ByNumber (Unit {0})) (heals : Bool) (s : Side)
     → SideKept entries contents taken requests g committed deleted s
     → SideKept entries contents taken requests g committed deleted (side_without_doubt heals s)
 side_healed entries contents taken requests g committed deleted false s k = k
@@ -39,7 +39,7 @@ side_healed entries contents taken requests g committed deleted true s k = recor
 abbrev in_doubt : Option GroupRecord → Side → Side
 in_doubt doubt s = record s { group = group_with_doubt doubt s.group }
 
-pub needs_in_doubt : (g : ℕ) (entries : Numbered Entry) (contents : Numbered (List ℕ)) (taken deleted : Numbered (Unit {0})) (s : Side)
+pub needs_in_doubt : (g : ℕ) (entries : ByNumber Entry) (contents : ByNumber (List ℕ)) (taken deleted : ByNumber (Unit {0})) (s : Side)
     (doubt : Option GroupRecord) (now : ℕ) (step : GroupStep)
     → GroupStepNeeds g entries contents taken deleted s now step → GroupStepNeeds g entries contents taken deleted (in_doubt doubt s) now step
 needs_in_doubt g entries contents taken deleted s doubt now (Volume vsn slot version size) n = n
@@ -50,13 +50,13 @@ needs_in_doubt g entries contents taken deleted s doubt now (Free vsn) n = n
 needs_in_doubt g entries contents taken deleted s doubt now (Reuse vsn epoch version) n = n
 
 -- what a payload leaves in doubt, where it failed
-abbrev pub MayDoubt : ℕ → Numbered Entry → Numbered (List ℕ) → Numbered (Unit {0}) → Numbered (Unit {0}) → Side → Option Payload → Type 0
+abbrev pub MayDoubt : ℕ → ByNumber Entry → ByNumber (List ℕ) → ByNumber (Unit {0}) → ByNumber (Unit {0}) → Side → Option Payload → Type 0
 MayDoubt g entries contents taken deleted s None = Unit {0}
 MayDoubt g entries contents taken deleted s (Some (payload.Daemon r)) = Unit {0}
 MayDoubt g entries contents taken deleted s (Some (payload.Group h r)) = MayLandNow g entries contents taken deleted s r
 
-pub side_in_doubt : (entries : Numbered Entry) (contents : Numbered (List ℕ)) (taken : Numbered (Unit {0})) (requests : Numbered OpenRequest)
-    (g : ℕ) (committed deleted : Numbered (Unit {0})) (s : Side) (p : Option Payload)
+pub side_in_doubt : (entries : ByNumber Entry) (contents : ByNumber (List ℕ)) (taken : ByNumber (Unit {0})) (requests : ByNumber OpenRequest)
+    (g : ℕ) (committed deleted : ByNumber (Unit {0})) (s : Side) (p : Option Payload)
     → MayDoubt g entries contents taken deleted s p
     → SideKept entries contents taken requests g committed deleted s
     → SideKept entries contents taken requests g committed deleted (side_doubting p s)

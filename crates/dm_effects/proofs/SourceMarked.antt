@@ -6,7 +6,7 @@ use Rattle.dm_tables.specs.Rows.{adjust}
 use Rattle.dm_tables.proofs.Orders.{numbers}
 use Rattle.dm_tables.proofs.Adjusted.{adjusted}
 use Rattle.dm_durable.specs.declared.daemon.Entry.{Entry}
-use Rattle.dm_durable.specs.Tables.{Numbered}
+use Rattle.dm_durable.specs.Tables.{ByNumber}
 use Rattle.dm_model.specs.declared.plan.Mark.TheVariants as mark
 use Rattle.dm_model.specs.declared.state.CopyReservation.{CopyReservation}
 use Rattle.dm_model.specs.declared.state.CopyState.{CopyState}
@@ -23,8 +23,8 @@ use Rattle.dm_effects.proofs.Copies.{copies_same}
 use Rattle.dm_effects.proofs.ImagesChanged.{AllWritten, HeldLike, MountLike, MovesRight, SparesChunks, images_same, like_itself, mount_changed, side_beside}
 
 -- what was written of the pieces is known where the invariant holds
-pub all_written : (entries : Numbered Entry) (contents : Numbered (List ℕ)) (taken : Numbered (Unit {0})) (requests : Numbered OpenRequest)
-    (g : ℕ) (committed deleted : Numbered (Unit {0})) (s : Side)
+pub all_written : (entries : ByNumber Entry) (contents : ByNumber (List ℕ)) (taken : ByNumber (Unit {0})) (requests : ByNumber OpenRequest)
+    (g : ℕ) (committed deleted : ByNumber (Unit {0})) (s : Side)
     → SideKept entries contents taken requests g committed deleted s → AllWritten s.group.reservations s.images s.copies
 all_written entries contents taken requests g committed deleted s kept n r c held is there has =
     let k = kept.reservations.reservation n r is in
@@ -33,8 +33,8 @@ all_written entries contents taken requests g committed deleted s kept n r c hel
     λ index w put. k.written index w (ap (λ (h : CopyReservation). map.get h.written index) same ∙ put)
 
 -- what was read of moved chunks is right
-pub reads_right : (entries : Numbered Entry) (contents : Numbered (List ℕ)) (taken : Numbered (Unit {0})) (requests : Numbered OpenRequest)
-    (g : ℕ) (committed deleted : Numbered (Unit {0})) (s : Side)
+pub reads_right : (entries : ByNumber Entry) (contents : ByNumber (List ℕ)) (taken : ByNumber (Unit {0})) (requests : ByNumber OpenRequest)
+    (g : ℕ) (committed deleted : ByNumber (Unit {0})) (s : Side)
     → SideKept entries contents taken requests g committed deleted s
     → (job : ℕ) (x : Moving) (y : MountState) → map.get s.group.moves job ≡ Some x → map.get s.mounts x.source ≡ Some y
     → ReadRight contents x.bfid.0 x.from y.read
@@ -44,8 +44,8 @@ reads_right entries contents taken requests g committed deleted s kept job x y i
     subst (λ (z : MountState). ReadRight contents x.bfid.0 x.from z.read) same k.read
 
 -- and what was written of them is known
-pub writes_right : (entries : Numbered Entry) (contents : Numbered (List ℕ)) (taken : Numbered (Unit {0})) (requests : Numbered OpenRequest)
-    (g : ℕ) (committed deleted : Numbered (Unit {0})) (s : Side)
+pub writes_right : (entries : ByNumber Entry) (contents : ByNumber (List ℕ)) (taken : ByNumber (Unit {0})) (requests : ByNumber OpenRequest)
+    (g : ℕ) (committed deleted : ByNumber (Unit {0})) (s : Side)
     → SideKept entries contents taken requests g committed deleted s
     → (job : ℕ) (x : Moving) (y : MountState) → map.get s.group.moves job ≡ Some x → map.get s.mounts x.target ≡ Some y
     → WrittenRight s.images x.version x.to y.written
@@ -55,7 +55,7 @@ writes_right entries contents taken requests g committed deleted s kept job x y 
     subst (λ (z : MountState). WrittenRight s.images x.version x.to z.written) same k.written
 
 -- no chunk has a place of no places
-no_places : (contents : Numbered (List ℕ)) (s : Side) (vsn : List ℕ) (place : ℕ) → SparesChunks contents s vsn place 0
+no_places : (contents : ByNumber (List ℕ)) (s : Side) (vsn : List ℕ) (place : ℕ) → SparesChunks contents s vsn place 0
 no_places contents s vsn place = record {
   live = λ b row is c among q covers low high. omega (arith, low, high);
   once = λ v b c there q covers low high. omega (arith, low, high);
@@ -63,15 +63,15 @@ no_places contents s vsn place = record {
 }
 
 -- the bytes that are read under a mount are right for each move that has it as its source
-abbrev pub SourceFits : Numbered (List ℕ) → Side → ℕ → List ℕ → Type 0
+abbrev pub SourceFits : ByNumber (List ℕ) → Side → ℕ → List ℕ → Type 0
 SourceFits contents s m bytes =
     (job : ℕ) (x : Moving) → map.get s.group.moves job ≡ Some x → x.source ≡ m → ReadPart contents x.bfid.0 x.from bytes
 
 abbrev with_read : List ℕ → MountState → MountState
 with_read bytes x = record x { read = Some bytes }
 
-module _ (entries : Numbered Entry) (contents : Numbered (List ℕ)) (taken : Numbered (Unit {0})) (requests : Numbered OpenRequest)
-    (g : ℕ) (committed deleted : Numbered (Unit {0})) (s : Side) (m : ℕ) (bytes : List ℕ) (fits : SourceFits contents s m bytes)
+module _ (entries : ByNumber Entry) (contents : ByNumber (List ℕ)) (taken : ByNumber (Unit {0})) (requests : ByNumber OpenRequest)
+    (g : ℕ) (committed deleted : ByNumber (Unit {0})) (s : Side) (m : ℕ) (bytes : List ℕ) (fits : SourceFits contents s m bytes)
     (kept : SideKept entries contents taken requests g committed deleted s) where
   read_after : (job : ℕ) (x : Moving) (y : MountState) → map.get s.group.moves job ≡ Some x
       → map.get (adjust s.mounts m (with_read bytes)) x.source ≡ Some y → ReadRight contents x.bfid.0 x.from y.read

@@ -9,7 +9,7 @@ use Rattle.dm_durable.specs.declared.daemon.Entry.{Entry}
 use Rattle.dm_durable.specs.declared.group.BitfileRow.{BitfileRow}
 use Rattle.dm_durable.specs.declared.group.GroupRecord.{GroupRecord}
 use Rattle.dm_durable.specs.declared.group.VolumeRow.{VolumeRow}
-use Rattle.dm_durable.specs.Tables.{Numbered, Named}
+use Rattle.dm_durable.specs.Tables.{ByNumber, ByName}
 use Rattle.dm_durable.specs.Volumes.{tip_in, tip_or}
 use Rattle.dm_model.specs.declared.state.Mounted.{Mounted}
 use Rattle.dm_model.specs.declared.state.MountState.{MountState}
@@ -28,7 +28,7 @@ use Rattle.dm_invariant.proofs.LookUps.{none_in_empty}
 at_end : (vsn : List ℕ) (v : VolumeRow) → tip_in map.empty vsn v ≡ v.end
 at_end vsn v = ap (λ o. tip_or o v) (map.get-empty {X = ℕ} (slice_cmp nat_cmp) vsn)
 
-volume_at_end : (conf : GroupConf) (tips : Named ℕ) (now : ℕ) (vsn : List ℕ) (v : VolumeRow) → VolumeKept conf tips now vsn v
+volume_at_end : (conf : GroupConf) (tips : ByName ℕ) (now : ℕ) (vsn : List ℕ) (v : VolumeRow) → VolumeKept conf tips now vsn v
     → VolumeKept conf map.empty now vsn v
 volume_at_end conf tips now vsn v k =
     let tip = at_end vsn v in
@@ -47,7 +47,7 @@ volume_at_end conf tips now vsn v k =
       freed = k.freed;
     }
 
-pub volumes_at_end : (conf : GroupConf) (now : ℕ) (volumes : Named VolumeRow) (tips : Named ℕ) → VolumesKept conf now volumes tips
+pub volumes_at_end : (conf : GroupConf) (now : ℕ) (volumes : ByName VolumeRow) (tips : ByName ℕ) → VolumesKept conf now volumes tips
     → VolumesKept conf now volumes map.empty
 volumes_at_end conf now volumes tips k = record {
   fits = k.fits;
@@ -56,7 +56,7 @@ volumes_at_end conf now volumes tips k = record {
 }
 
 -- nothing is mounted
-pub nothing_mounted : (conf : GroupConf) (volumes : Named VolumeRow) → MountsKept conf volumes map.empty map.empty map.empty map.empty map.empty 0 map.empty
+pub nothing_mounted : (conf : GroupConf) (volumes : ByName VolumeRow) → MountsKept conf volumes map.empty map.empty map.empty map.empty map.empty 0 map.empty
 nothing_mounted conf volumes = record {
   numbers = each-empty nat_cmp _;
   same = λ m. map.get-empty {X = Mounted} nat_cmp m ∙ sym (ap (option_map mounted_of) (map.get-empty {X = MountState} nat_cmp m));
@@ -68,7 +68,7 @@ nothing_mounted conf volumes = record {
 }
 
 -- who has a place had it before
-had_open : (bitfiles : Numbered BitfileRow) (reservations : Numbered Reserved) (moves : Numbered Moving) (doubt : Option GroupRecord)
+had_open : (bitfiles : ByNumber BitfileRow) (reservations : ByNumber Reserved) (moves : ByNumber Moving) (doubt : Option GroupRecord)
     (o : Owner) (vsn : List ℕ) (place : ℕ)
     → HasPlace bitfiles map.empty map.empty None o vsn place → HasPlace bitfiles reservations moves doubt o vsn place
 had_open bitfiles reservations moves doubt (Live b offset) vsn place has = has
@@ -76,14 +76,14 @@ had_open bitfiles reservations moves doubt (Reserving n offset) vsn place has = 
 had_open bitfiles reservations moves doubt (Target job) vsn place has = absurd (none_in_empty nat_cmp map.empty job has.moving refl has.is)
 had_open bitfiles reservations moves doubt (Doubted zone) vsn place has = absurd has.among
 
-pub places_of_bitfiles : (bitfiles : Numbered BitfileRow) (reservations : Numbered Reserved) (moves : Numbered Moving) (doubt : Option GroupRecord)
+pub places_of_bitfiles : (bitfiles : ByNumber BitfileRow) (reservations : ByNumber Reserved) (moves : ByNumber Moving) (doubt : Option GroupRecord)
     → PlacesKept bitfiles reservations moves doubt → PlacesKept bitfiles map.empty map.empty None
 places_of_bitfiles bitfiles reservations moves doubt k = λ o p vsn place one two.
     k o p vsn place (had_open bitfiles reservations moves doubt o vsn place one) (had_open bitfiles reservations moves doubt p vsn place two)
 
 -- the end of the program keeps a side, whatever requests are open after it
-pub side_stopped : (entries : Numbered Entry) (contents : Numbered (List ℕ)) (taken : Numbered (Unit {0})) (requests later : Numbered OpenRequest)
-    (g : ℕ) (committed deleted : Numbered (Unit {0})) (s : Side)
+pub side_stopped : (entries : ByNumber Entry) (contents : ByNumber (List ℕ)) (taken : ByNumber (Unit {0})) (requests later : ByNumber OpenRequest)
+    (g : ℕ) (committed deleted : ByNumber (Unit {0})) (s : Side)
     → SideKept entries contents taken requests g committed deleted s
     → SideKept entries contents taken later g committed deleted (side_after_stop s)
 side_stopped entries contents taken requests later g committed deleted s k = record {

@@ -10,7 +10,7 @@ use Rattle.dm_tables.specs.Rows.{adjust}
 use Rattle.dm_tables.proofs.Orders.{numbers}
 use Rattle.dm_tables.proofs.Adjusted.{adjusted}
 use Rattle.dm_durable.specs.declared.daemon.Entry.{Entry}
-use Rattle.dm_durable.specs.Tables.{Named, Numbered}
+use Rattle.dm_durable.specs.Tables.{ByName, ByNumber}
 use Rattle.dm_model.specs.declared.plan.Mark.TheVariants as mark
 use Rattle.dm_model.specs.declared.state.Image.{Image}
 use Rattle.dm_model.specs.declared.state.MountState.{MountState}
@@ -52,8 +52,8 @@ job_of_owner (Reserving n offset) other = other
 job_of_owner (Target job) other = job
 job_of_owner (Doubted zone) other = other
 
-module _ (entries : Numbered Entry) (contents : Numbered (List ℕ)) (taken : Numbered (Unit {0})) (requests : Numbered OpenRequest)
-    (g : ℕ) (committed deleted : Numbered (Unit {0})) (s : Side) (vsn : List ℕ) (m place : ℕ) (zone : List ℕ)
+module _ (entries : ByNumber Entry) (contents : ByNumber (List ℕ)) (taken : ByNumber (Unit {0})) (requests : ByNumber OpenRequest)
+    (g : ℕ) (committed deleted : ByNumber (Unit {0})) (s : Side) (vsn : List ℕ) (m place : ℕ) (zone : List ℕ)
     (fits : TargetFits s vsn m place zone) (kept : SideKept entries contents taken requests g committed deleted s) where
   zone_has : (q : ℕ) → place ≤ q → q < place + length zone → HasTarget s.group.moves fits.job vsn q
   zone_has q low high = record {
@@ -91,7 +91,7 @@ module _ (entries : Numbered Entry) (contents : Numbered (List ℕ)) (taken : Nu
   own_moving : (job : ℕ) (x : Moving) → map.get s.group.moves job ≡ Some x → job ≡ fits.job → x ≡ fits.moving
   own_moving job x is same = same_row (map.get s.group.moves fits.job) x fits.moving (ap (map.get s.group.moves) (sym same) ∙ is) fits.is
 
-  module _ (images : Named Image) (beside : KnownBeside vsn place (length zone) s.images images) where
+  module _ (images : ByName Image) (beside : KnownBeside vsn place (length zone) s.images images) where
     -- what was written of a reservation's pieces is no part of the zone
     pieces_written : AllWritten s.group.reservations images s.copies
     pieces_written n r c held is there has = λ index w put p at.
@@ -157,8 +157,8 @@ module _ (entries : Numbered Entry) (contents : Numbered (List ℕ)) (taken : Nu
           (record { read = read_after; written = written_after }) kept
 
 -- the zone of a moved chunk is written: the side is kept
-pub side_target_written : (entries : Numbered Entry) (contents : Numbered (List ℕ)) (taken : Numbered (Unit {0})) (requests : Numbered OpenRequest)
-    (g : ℕ) (committed deleted : Numbered (Unit {0})) (s : Side) (h : GroupId) (vsn : Vsn) (m place : ℕ) (zone : List ℕ)
+pub side_target_written : (entries : ByNumber Entry) (contents : ByNumber (List ℕ)) (taken : ByNumber (Unit {0})) (requests : ByNumber OpenRequest)
+    (g : ℕ) (committed deleted : ByNumber (Unit {0})) (s : Side) (h : GroupId) (vsn : Vsn) (m place : ℕ) (zone : List ℕ)
     → TargetFits s vsn.0 m place zone
     → SideKept entries contents taken requests g committed deleted s
     → SideKept entries contents taken requests g committed deleted (side_after_mark (mark.Target h vsn m place zone) s)
@@ -173,8 +173,8 @@ side_target_written entries contents taken requests g committed deleted s h vsn 
     })
 
 -- also where the write of the zone fails
-pub side_target_failed : (entries : Numbered Entry) (contents : Numbered (List ℕ)) (taken : Numbered (Unit {0})) (requests : Numbered OpenRequest)
-    (g : ℕ) (committed deleted : Numbered (Unit {0})) (s : Side) (h : GroupId) (vsn : Vsn) (m place : ℕ) (zone : List ℕ)
+pub side_target_failed : (entries : ByNumber Entry) (contents : ByNumber (List ℕ)) (taken : ByNumber (Unit {0})) (requests : ByNumber OpenRequest)
+    (g : ℕ) (committed deleted : ByNumber (Unit {0})) (s : Side) (h : GroupId) (vsn : Vsn) (m place : ℕ) (zone : List ℕ)
     → TargetFits s vsn.0 m place zone
     → SideKept entries contents taken requests g committed deleted s
     → SideKept entries contents taken requests g committed deleted (side_after_failed_mark (mark.Target h vsn m place zone) s)

@@ -5,7 +5,7 @@ use Rattle.dm_durable.specs.declared.daemon.Entry.{Entry}
 use Rattle.dm_durable.specs.declared.group.GroupRecord.{GroupRecord}
 use Rattle.dm_durable.specs.declared.group.GroupStep.{GroupStep}
 use Rattle.dm_durable.specs.declared.group.GroupStep.TheVariants.{Volume, Commit, Delete, Move, Free, Reuse}
-use Rattle.dm_durable.specs.Tables.{Numbered}
+use Rattle.dm_durable.specs.Tables.{ByNumber}
 use Rattle.dm_model.specs.declared.state.CopyState.{CopyState}
 use Rattle.dm_model.specs.declared.state.Mounted.{Mounted}
 use Rattle.dm_model.specs.declared.state.MountState.{MountState}
@@ -17,15 +17,15 @@ use Rattle.dm_invariant.specs.Doubts.{GroupMayLand, GroupMayLandIf, GroupStepNee
 
 -- what is open of a group: its tables, tips and volumes stay, and so does a step in doubt
 pub record IsOpen : Type 0 where
-  pub reservations : Numbered Reserved
+  pub reservations : ByNumber Reserved
   pub next_reservation : ℕ
-  pub copies : Numbered CopyState
-  pub mounts : Numbered MountState
-  pub group_mounts : Numbered Mounted
+  pub copies : ByNumber CopyState
+  pub mounts : ByNumber MountState
+  pub group_mounts : ByNumber Mounted
   pub next_mount : ℕ
-  pub moves : Numbered Moving
+  pub moves : ByNumber Moving
   pub next_move : ℕ
-  pub reuses : Numbered Reusing
+  pub reuses : ByNumber Reusing
 
 abbrev pub open_of : Side → IsOpen
 open_of s = record {
@@ -56,29 +56,29 @@ with_open o s = record s {
 }
 
 -- each mount is of a volume that was mounted, and each reservation was there
-pub record FewerUses (mounts after : Numbered MountState) (reservations left : Numbered Reserved) : Type 0 where
+pub record FewerUses (mounts after : ByNumber MountState) (reservations left : ByNumber Reserved) : Type 0 where
   pub mounted : (m : ℕ) (x : MountState) → map.get after m ≡ Some x → (n : ℕ) × (y : MountState) × (map.get mounts n ≡ Some y) × (y.vsn.0 ≡ x.vsn.0)
   pub reserved : (n : ℕ) (r : Reserved) → map.get left n ≡ Some r → map.get reservations n ≡ Some r
 
 -- the same mounts and reservations
-pub same_uses : (mounts : Numbered MountState) (reservations : Numbered Reserved) → FewerUses mounts mounts reservations reservations
+pub same_uses : (mounts : ByNumber MountState) (reservations : ByNumber Reserved) → FewerUses mounts mounts reservations reservations
 same_uses mounts reservations = record { mounted = λ m x is. (m, x, is, refl); reserved = λ n r is. is }
 
-unmounted_fewer : (mounts after : Numbered MountState) (reservations left : Numbered Reserved) (vsn : List ℕ)
+unmounted_fewer : (mounts after : ByNumber MountState) (reservations left : ByNumber Reserved) (vsn : List ℕ)
     → FewerUses mounts after reservations left
     → ((m : ℕ) (x : MountState) → map.get mounts m ≡ Some x → x.vsn.0 ≡ vsn → ⊥)
     → (m : ℕ) (x : MountState) → map.get after m ≡ Some x → x.vsn.0 ≡ vsn → ⊥
 unmounted_fewer mounts after reservations left vsn f none m x is same =
     let was = f.mounted m x is in none was.0 was.1 was.2 (was.3 ∙ same)
 
-pub unused_fewer : (mounts after : Numbered MountState) (reservations left : Numbered Reserved) (vsn : List ℕ)
+pub unused_fewer : (mounts after : ByNumber MountState) (reservations left : ByNumber Reserved) (vsn : List ℕ)
     → FewerUses mounts after reservations left → IsUnused mounts reservations vsn → IsUnused after left vsn
 unused_fewer mounts after reservations left vsn f u = record {
   unmounted = unmounted_fewer mounts after reservations left vsn f u.unmounted;
   unreserved = λ n r is p among same. u.unreserved n r (f.reserved n r is) p among same;
 }
 
-module _ (g : ℕ) (entries : Numbered Entry) (contents : Numbered (List ℕ)) (taken deleted : Numbered (Unit {0})) (s : Side) (o : IsOpen)
+module _ (g : ℕ) (entries : ByNumber Entry) (contents : ByNumber (List ℕ)) (taken deleted : ByNumber (Unit {0})) (s : Side) (o : IsOpen)
     (f : FewerUses s.mounts o.mounts s.group.reservations o.reservations) where
   needs_fewer : (now : ℕ) (step : GroupStep) → GroupStepNeeds g entries contents taken deleted s now step
       → GroupStepNeeds g entries contents taken deleted (with_open o s) now step

@@ -17,7 +17,7 @@ use Rattle.dm_tables.proofs.Rows.{inserted, removed}
 use Rattle.dm_tables.proofs.Adjusted.{adjusted, adjusted-here}
 use Rattle.dm_durable.specs.declared.daemon.Entry.{Entry}
 use Rattle.dm_durable.specs.declared.group.VolumeRow.{VolumeRow}
-use Rattle.dm_durable.specs.Tables.{Numbered, Named}
+use Rattle.dm_durable.specs.Tables.{ByNumber, ByName}
 use Rattle.dm_model.specs.declared.plan.Mark.TheVariants as mark
 use Rattle.dm_model.specs.declared.state.CopyReservation.{CopyReservation}
 use Rattle.dm_model.specs.declared.state.CopyState.{CopyState}
@@ -89,13 +89,13 @@ known_there : (place : ℕ) (zone : List ℕ) (o : Option Image) → IsSome o
 known_there place zone None is = cc
 known_there place zone (Some i) is = known_whole place zone i.known
 
-pub known_here : (vsn : List ℕ) (place : ℕ) (zone : List ℕ) (images : Named Image) → IsSome (map.get images vsn)
+pub known_here : (vsn : List ℕ) (place : ℕ) (zone : List ℕ) (images : ByName Image) → IsSome (map.get images vsn)
     → known_bytes (known_on (adjust images vsn (known_by (known_with_write place zone))) vsn) place (length zone) ≡ Some zone
 known_here vsn place zone images is =
     ap (λ o. known_bytes (known_of o) place (length zone)) (adjusted-here paths images vsn (known_by (known_with_write place zone)))
     ∙ known_there place zone (map.get images vsn) is
 
-written_piece : (images : Named Image) (vsn : List ℕ) (place chunk : ℕ) (zone : List ℕ) (p : Piece) (w : WrittenZone) → p.vsn.0 ≡ vsn
+written_piece : (images : ByName Image) (vsn : List ℕ) (place chunk : ℕ) (zone : List ℕ) (p : Piece) (w : WrittenZone) → p.vsn.0 ≡ vsn
     → p.zone ≡ place → w.zone ≡ zone → length zone ≡ zone_length p.version chunk p.len
     → known_bytes (known_on images vsn) place (length zone) ≡ Some zone → WrittenKept images chunk p w
 written_piece images vsn place chunk zone p w volume stands same len known = record {
@@ -136,7 +136,7 @@ offset_of (Reserving n offset) = offset
 offset_of (Target job) = 0
 offset_of (Doubted zone) = 0
 
-piece_has : (reservations : Numbered Reserved) (n : ℕ) (r : Reserved) (i : ℕ) (p : Piece) (vsn : List ℕ) (long q : ℕ)
+piece_has : (reservations : ByNumber Reserved) (n : ℕ) (r : Reserved) (i : ℕ) (p : Piece) (vsn : List ℕ) (long q : ℕ)
     → map.get reservations n ≡ Some r → piece_at i r.pieces ≡ Some p → p.vsn.0 ≡ vsn
     → long ≡ zone_length p.version r.chunk p.len → p.zone ≤ q → q < p.zone + long → HasReserving reservations n p.offset vsn q
 piece_has reservations n r i p vsn long q is at same len low high = record {
@@ -155,8 +155,8 @@ module _ (s : Side) (vsn : List ℕ) (place : ℕ) (zone : List ℕ) (b index : 
       (subst (λ p. p ≤ q) (sym fits.stands) low)
       (subst (λ p. q < p + length zone) (sym fits.stands) high)
 
-  module _ (entries : Numbered Entry) (contents : Numbered (List ℕ)) (taken : Numbered (Unit {0})) (requests : Numbered OpenRequest)
-      (g : ℕ) (committed deleted : Numbered (Unit {0})) (kept : SideKept entries contents taken requests g committed deleted s) where
+  module _ (entries : ByNumber Entry) (contents : ByNumber (List ℕ)) (taken : ByNumber (Unit {0})) (requests : ByNumber OpenRequest)
+      (g : ℕ) (committed deleted : ByNumber (Unit {0})) (kept : SideKept entries contents taken requests g committed deleted s) where
     zone_spared : SparesChunks contents s vsn place (length zone)
     zone_spared = record {
       live = λ c row is d among q covers low high.
@@ -184,7 +184,7 @@ module _ (s : Side) (vsn : List ℕ) (place : ℕ) (zone : List ℕ) (b index : 
     own_reserved n r is same =
         same_row (map.get s.group.reservations n) fits.reserved r (ap (map.get s.group.reservations) (sym same) ∙ fits.there) is
 
-    module _ (images : Named Image) (beside : KnownBeside vsn place (length zone) s.images images) where
+    module _ (images : ByName Image) (beside : KnownBeside vsn place (length zone) s.images images) where
       was_written : (n : ℕ) (r : Reserved) (c : CopyState) (held : CopyReservation) (i : ℕ) (w : WrittenZone) (p : Piece)
           → map.get s.group.reservations n ≡ Some r → map.get s.copies r.bfid.0 ≡ Some c → c.reservation ≡ Some held
           → map.get held.written i ≡ Some w → piece_at i r.pieces ≡ Some p → (n ≡ fits.held.number → p.offset ≡ fits.piece.offset → ⊥)
@@ -200,7 +200,7 @@ module _ (s : Side) (vsn : List ℕ) (place : ℕ) (zone : List ℕ) (b index : 
           }
 
       -- a zone that another piece wrote, or the one that is written now
-      abbrev NewOrOld : Numbered WrittenZone → ℕ → WrittenZone → Type 0
+      abbrev NewOrOld : ByNumber WrittenZone → ℕ → WrittenZone → Type 0
       NewOrOld old i w = ((i ≢ index) × (map.get old i ≡ Some w)) ⊎
           ((i ≡ index) × (w.zone ≡ zone) × (known_bytes (known_on images vsn) place (length zone) ≡ Some zone))
 
@@ -260,8 +260,8 @@ module _ (s : Side) (vsn : List ℕ) (place : ℕ) (zone : List ℕ) (b index : 
             kept
 
 -- the zone of a piece is written: the side is kept
-pub side_zone_written : (entries : Numbered Entry) (contents : Numbered (List ℕ)) (taken : Numbered (Unit {0})) (requests : Numbered OpenRequest)
-    (g : ℕ) (committed deleted : Numbered (Unit {0})) (s : Side) (h : GroupId) (vsn : Vsn) (place : ℕ) (zone : List ℕ) (b : Bfid) (index epoch : ℕ)
+pub side_zone_written : (entries : ByNumber Entry) (contents : ByNumber (List ℕ)) (taken : ByNumber (Unit {0})) (requests : ByNumber OpenRequest)
+    (g : ℕ) (committed deleted : ByNumber (Unit {0})) (s : Side) (h : GroupId) (vsn : Vsn) (place : ℕ) (zone : List ℕ) (b : Bfid) (index epoch : ℕ)
     → ZoneFits s vsn.0 place zone b.0 index
     → SideKept entries contents taken requests g committed deleted s
     → SideKept entries contents taken requests g committed deleted (side_after_mark (mark.Zone h vsn place zone b index epoch) s)
@@ -275,8 +275,8 @@ side_zone_written entries contents taken requests g committed deleted s h vsn pl
     (λ h. record { number = refl; mounts = refl })
 
 -- also where the write of the zone fails
-pub side_zone_failed : (entries : Numbered Entry) (contents : Numbered (List ℕ)) (taken : Numbered (Unit {0})) (requests : Numbered OpenRequest)
-    (g : ℕ) (committed deleted : Numbered (Unit {0})) (s : Side) (h : GroupId) (vsn : Vsn) (place : ℕ) (zone : List ℕ) (b : Bfid) (index epoch : ℕ)
+pub side_zone_failed : (entries : ByNumber Entry) (contents : ByNumber (List ℕ)) (taken : ByNumber (Unit {0})) (requests : ByNumber OpenRequest)
+    (g : ℕ) (committed deleted : ByNumber (Unit {0})) (s : Side) (h : GroupId) (vsn : Vsn) (place : ℕ) (zone : List ℕ) (b : Bfid) (index epoch : ℕ)
     → ZoneFits s vsn.0 place zone b.0 index
     → SideKept entries contents taken requests g committed deleted s
     → SideKept entries contents taken requests g committed deleted (side_after_failed_mark (mark.Zone h vsn place zone b index epoch) s)

@@ -3,7 +3,7 @@ ghost use Rattle.std.specs.Prelude.{◌≡◌, ℕ, List};
 ghost use Rattle.std.specs.List.{AllByRecursion};
 ghost use Rattle.dm_effects.specs.OfDaemon.{IsOfDaemon};
 ghost use Rattle.dm_invariant.specs.Kept.{InvariantHolds};
-ghost use Rattle.dm_invariant.specs.Opened.{Fits};
+ghost use Rattle.dm_invariant.specs.Opened.{IsAsConfigured};
 ghost use Rattle.dm_invariant.specs.Sound.{Sound};
 ghost use Rattle.dm_model.specs.declared.answer.Answer.{Answer};
 ghost use Rattle.dm_model.specs.declared.call.Event.{Event};
@@ -20,5 +20,5 @@ pub fn daemon_keeps()
     ensures sound { (j : Joint) (entries : List RunEntry) (k : Joint) → InvariantHolds j → AllByRecursion (λ e. IsOfDaemon e.event) entries
         → Run j entries k → Sound k }
     ensures fits { (j : Joint) (entries : List RunEntry) (k : Joint) → InvariantHolds j → AllByRecursion (λ e. IsOfDaemon e.event) entries
-        → Run j entries k → Fits k }
+        → Run j entries k → IsAsConfigured k }
 {}

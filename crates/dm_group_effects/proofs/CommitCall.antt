@@ -17,7 +17,7 @@ use Rattle.dm_rules.specs.Zone.{zone_header, zone_length}
 use Rattle.dm_tables.specs.Rows.{EachRow}
 use Rattle.dm_tables.proofs.Orders.{numbers}
 use Rattle.dm_tables.proofs.Rows.{one_row, removed}
-use Rattle.dm_durable.specs.Tables.{Numbered, Named}
+use Rattle.dm_durable.specs.Tables.{ByNumber, ByName}
 use Rattle.dm_durable.specs.GroupConditions.{LiesOn, MayCommit}
 use Rattle.dm_durable.specs.declared.daemon.Entry.{Entry}
 use Rattle.dm_durable.specs.declared.group.GroupRecord.{GroupRecord}
@@ -105,13 +105,13 @@ one_piece from to (x ∷ ps) p q join one two same =
 -- ---- what was written
 
 -- a piece that was written last with its zone
-record WrittenAs (bytes : List ℕ) (r : Reserved) (written : Numbered WrittenZone) (index : ℕ) (p : Piece) : Type 0 where
+record WrittenAs (bytes : List ℕ) (r : Reserved) (written : ByNumber WrittenZone) (index : ℕ) (p : Piece) : Type 0 where
   row : WrittenZone
   is : map.get written index ≡ Some row
   zone : row.zone ≡ piece_zone row.epoch bytes r p
   within : p.offset + p.len ≤ length bytes
 
-written_as : (bytes : List ℕ) (r : Reserved) (written : Numbered WrittenZone) (index : ℕ) (p : Piece) (o : Option WrittenZone)
+written_as : (bytes : List ℕ) (r : Reserved) (written : ByNumber WrittenZone) (index : ℕ) (p : Piece) (o : Option WrittenZone)
     → map.get written index ≡ o
     → is_zone_of bytes r p o ≡ true → WrittenAs bytes r written index p
 written_as bytes r written index p None e holds = absurd cc
@@ -123,7 +123,7 @@ written_as bytes r written index p (Some w) e holds = record {
 }
 
 -- each piece of the list was written so, under its place in the list
-piece_written : (bytes : List ℕ) (r : Reserved) (written : Numbered WrittenZone) (k : ℕ) (ps : List Piece) (p : Piece)
+piece_written : (bytes : List ℕ) (r : Reserved) (written : ByNumber WrittenZone) (k : ℕ) (ps : List Piece) (p : Piece)
     → are_written bytes r written k ps ≡ true → IsAmong p ps
     → (index : ℕ) × (piece_at index ps ≡ Some p) × WrittenAs bytes r written (k + index) p
 piece_written bytes r written k [] p all among = absurd among
@@ -148,15 +148,15 @@ piece_written bytes r written k (q ∷ ps) p all among =
         ap (λ b. cond b (Some q) (piece_at (suc index - 1) ps)) (ne_eqb (suc index) 0 (λ h. omega (arith, h))) ∙ ap (λ n. piece_at n ps) e ∙ is
 
 -- a written piece is known where its zone stands
-zone_known : (images : Named Image) (bytes : List ℕ) (r : Reserved) (p : Piece) (w : WrittenZone) → WrittenKept images r.chunk p w
+zone_known : (images : ByName Image) (bytes : List ℕ) (r : Reserved) (p : Piece) (w : WrittenZone) → WrittenKept images r.chunk p w
     → w.zone ≡ piece_zone w.epoch bytes r p
     → known_bytes (known_on images p.vsn.0) p.zone (zone_length p.version r.chunk p.len) ≡ Some (piece_zone w.epoch bytes r p)
 zone_known images bytes r p w k same = ap (known_bytes (known_on images p.vsn.0) p.zone) (sym k.len) ∙ k.known ∙ ap (λ t. Some t) same
 
 -- ---- the side of the group
 
-module _ (g : ℕ) (entries : Numbered Entry) (contents : Numbered (List ℕ)) (taken : Numbered (Unit {0})) (requests : Numbered OpenRequest)
-    (committed deleted : Numbered (Unit {0})) (s : Side) (kept : SideKept entries contents taken requests g committed deleted s) (n : ℕ) (r : Reserved)
+module _ (g : ℕ) (entries : ByNumber Entry) (contents : ByNumber (List ℕ)) (taken : ByNumber (Unit {0})) (requests : ByNumber OpenRequest)
+    (committed deleted : ByNumber (Unit {0})) (s : Side) (kept : SideKept entries contents taken requests g committed deleted s) (n : ℕ) (r : Reserved)
     (there : map.get s.group.reservations n ≡ Some r) where
   abbrev mine : ReservationKept s.group.tables.bitfiles s.group.tables.volumes s.group.tips s.images s.copies n r
   mine = kept.reservations.reservation n r there

@@ -9,7 +9,7 @@ use Rattle.dm_base.specs.declared.serial.Vsn.{Vsn}
 use Rattle.dm_tables.specs.Rows.{EachRow, any}
 use Rattle.dm_tables.proofs.Orders.{numbers, paths, same_or}
 use Rattle.dm_tables.proofs.Any.{any-true, any-false}
-use Rattle.dm_durable.specs.Tables.{Named, same_text}
+use Rattle.dm_durable.specs.Tables.{ByName, same_text}
 use Rattle.dm_durable.specs.declared.group.VolumeRow.{VolumeRow}
 use Rattle.dm_durable.specs.Volumes.{free_slot}
 use Rattle.dm_invariant.specs.Among.{IsAmong}
@@ -75,7 +75,7 @@ slot_and None ks = ks
 slot_and (Some r) ks = r.slot ∷ ks
 
 -- the slots of those of these volumes that the tables have
-abbrev slots_of : Named VolumeRow → List Vsn → List ℕ
+abbrev slots_of : ByName VolumeRow → List Vsn → List ℕ
 slots_of volumes [] = []
 slots_of volumes (v ∷ vs) = slot_and (map.get volumes v.0) (slots_of volumes vs)
 
@@ -83,12 +83,12 @@ slot_fewer : (o : Option VolumeRow) (ks : List ℕ) (n : ℕ) → length ks ≤ 
 slot_fewer None ks n fewer = omega (arith, fewer)
 slot_fewer (Some r) ks n fewer = omega (arith, fewer)
 
-slots_fewer : (volumes : Named VolumeRow) (vs : List Vsn) → length (slots_of volumes vs) ≤ length vs
+slots_fewer : (volumes : ByName VolumeRow) (vs : List Vsn) → length (slots_of volumes vs) ≤ length vs
 slots_fewer volumes [] = omega arith
 slots_fewer volumes (v ∷ vs) = slot_fewer (map.get volumes v.0) (slots_of volumes vs) (length vs) (slots_fewer volumes vs)
 
 -- they are fewer than the volumes, where the tables lack one of those
-slots_less : (volumes : Named VolumeRow) (vs : List Vsn) (x : List ℕ) → map.get volumes x ≡ None → list_any (λ v. same_text v.0 x) vs ≡ true
+slots_less : (volumes : ByName VolumeRow) (vs : List Vsn) (x : List ℕ) → map.get volumes x ≡ None → list_any (λ v. same_text v.0 x) vs ≡ true
     → length (slots_of volumes vs) < length vs
 slots_less volumes [] x none is = cc
 slots_less volumes (v ∷ vs) x none is =
@@ -110,7 +110,7 @@ among_slot None k ks among = among
 among_slot (Some r) k ks among = inr among
 
 -- the slot of each of the volumes is there
-slot_there : (volumes : Named VolumeRow) (vs : List Vsn) (x : List ℕ) (r : VolumeRow) → map.get volumes x ≡ Some r
+slot_there : (volumes : ByName VolumeRow) (vs : List Vsn) (x : List ℕ) (r : VolumeRow) → map.get volumes x ≡ Some r
     → list_any (λ v. same_text v.0 x) vs ≡ true → IsAmong r.slot (slots_of volumes vs)
 slot_there volumes [] x r there is = cc
 slot_there volumes (v ∷ vs) x r there is =
@@ -125,19 +125,19 @@ slot_there volumes (v ∷ vs) x r there is =
 -- ---- the slot that is found
 
 -- a volume has the slot
-record HasSlot (volumes : Named VolumeRow) (k : ℕ) : Type 0 where
+record HasSlot (volumes : ByName VolumeRow) (k : ℕ) : Type 0 where
   vsn : List ℕ
   row : VolumeRow
   is : map.get volumes vsn ≡ Some row
   same : row.slot ≡ k
 
 -- no volume has it, and it is before the end
-pub record IsFree (volumes : Named VolumeRow) (limit k : ℕ) : Type 0 where
+pub record IsFree (volumes : ByName VolumeRow) (limit k : ℕ) : Type 0 where
   pub within : k < limit
   pub free : EachRow volumes (λ v row. row.slot ≡ k → ⊥)
 
 -- the slots behind a slot that is taken
-more_taken : (volumes : Named VolumeRow) (left slot found : ℕ) → HasSlot volumes slot
+more_taken : (volumes : ByName VolumeRow) (left slot found : ℕ) → HasSlot volumes slot
     → IsFree volumes (slot + 1 + left) found ⊎ ((k : ℕ) → slot + 1 ≤ k → k < slot + 1 + left → HasSlot volumes k)
     → IsFree volumes (slot + suc left) found ⊎ ((k : ℕ) → slot ≤ k → k < slot + suc left → HasSlot volumes k)
 more_taken volumes left slot found here (inl free) = inl (record { within = let w = free.within in omega (arith, w); free = free.free })
@@ -147,7 +147,7 @@ more_taken volumes left slot found here (inr taken) = inr (λ k low high. elim (
 ])
 
 -- the slot that is found is free, or all are taken
-free_or_taken : (volumes : Named VolumeRow) (left slot : ℕ)
+free_or_taken : (volumes : ByName VolumeRow) (left slot : ℕ)
     → IsFree volumes (slot + left) (free_slot volumes left slot) ⊎ ((k : ℕ) → slot ≤ k → k < slot + left → HasSlot volumes k)
 unfolding free_slot
 free_or_taken volumes zero slot = inr (λ k low high. absurd (omega (arith, low, high)))
@@ -168,7 +168,7 @@ free_or_taken volumes (suc left) slot =
 
 -- where volumes of the tables are among these, of which there are no more than slots, and one isn't in the tables, a slot is
 -- free for it
-pub slot_free : (volumes : Named VolumeRow) (vs : List Vsn) (limit : ℕ) (x : List ℕ)
+pub slot_free : (volumes : ByName VolumeRow) (vs : List Vsn) (limit : ℕ) (x : List ℕ)
     → EachRow volumes (λ vsn r. list_any (λ v. same_text v.0 vsn) vs ≡ true)
     → length vs ≤ limit
     → list_any (λ v. same_text v.0 x) vs ≡ true → map.get volumes x ≡ None → IsFree volumes limit (free_slot volumes limit 0)

@@ -22,7 +22,7 @@ use Rattle.dm_durable.specs.declared.group.BitfileRow.{BitfileRow}
 use Rattle.dm_durable.specs.declared.group.VolumeRow.{VolumeRow}
 use Rattle.dm_durable.specs.Group.{is_on}
 use Rattle.dm_durable.specs.Limits.{IsPast}
-use Rattle.dm_durable.specs.Tables.{Named, Numbered}
+use Rattle.dm_durable.specs.Tables.{ByName, ByNumber}
 use Rattle.dm_durable.specs.Volumes.{LiveChunk, Usage, chunks_on, destination_in, epoch_or, first_on, further_in_front, is_listed, is_reusable_in, least_placed, live_chunk, of_serial, reusable_in, room_in, tip_in}
 use Rattle.dm_model.specs.declared.guard.Guard.TheVariants as guard
 use Rattle.dm_model.specs.declared.state.GroupHistory.{GroupHistory}
@@ -80,12 +80,12 @@ if_true false x xs among = absurd among
 -- ---- a volume that is ready
 
 -- a volume of the tables that may be used again
-record Reusable (u : Usage) (now hold format : ℕ) (volumes : Named VolumeRow) (vsn : List ℕ) : Type 0 where
+record Reusable (u : Usage) (now hold format : ℕ) (volumes : ByName VolumeRow) (vsn : List ℕ) : Type 0 where
   volume : VolumeRow
   is : map.get volumes vsn ≡ Some volume
   may : is_reusable_in u now hold format vsn volume ≡ true
 
-module _ (u : Usage) (now hold format : ℕ) (volumes : Named VolumeRow) where
+module _ (u : Usage) (now hold format : ℕ) (volumes : ByName VolumeRow) where
   reusable_at : (vsn : List ℕ) (v : VolumeRow) (x : Vsn) → map.get volumes vsn ≡ Some v
       → IsAmong x (of_serial vsn (cond (is_reusable_in u now hold format vsn v) (record { 0 = vsn } ∷ []) [])) → Reusable u now hold format volumes x.0
   reusable_at vsn v x is among =
@@ -126,7 +126,7 @@ ready_of now hold format version tip room None e past =
 -- ---- the chunk that is moved
 
 -- a chunk of a bitfile that stands on the volume
-record LiveOn (bitfiles : Numbered BitfileRow) (vsn : List ℕ) (l : LiveChunk) : Type 0 where
+record LiveOn (bitfiles : ByNumber BitfileRow) (vsn : List ℕ) (l : LiveChunk) : Type 0 where
   row : BitfileRow
   is : map.get bitfiles l.bfid.0 ≡ Some row
   among : IsAmong l.chunk row.chunks
@@ -149,7 +149,7 @@ least_among (x ∷ xs) l e =
       | inr later ↦ inr (least_among xs l (later ∙ ap (λ y. Some y) same))
     ]
 
-module _ (bitfiles : Numbered BitfileRow) (vsn : List ℕ) where
+module _ (bitfiles : ByNumber BitfileRow) (vsn : List ℕ) where
   live_at : (b : ℕ) (row : BitfileRow) (l : LiveChunk) → map.get bitfiles b ≡ Some row
       → IsAmong l (prelude.map (live_chunk b row) (filter (is_on vsn) row.chunks)) → LiveOn bitfiles vsn l
   live_at b row l is among =

@@ -18,7 +18,7 @@ use Rattle.dm_durable.specs.declared.group.GroupStep.{GroupStep}
 use Rattle.dm_durable.specs.declared.group.GroupStep.TheVariants as step
 use Rattle.dm_durable.specs.Group.{chunk_at}
 use Rattle.dm_durable.specs.GroupConditions.{MayGroupStep}
-use Rattle.dm_durable.specs.Tables.{Numbered, same_text}
+use Rattle.dm_durable.specs.Tables.{ByNumber, same_text}
 use Rattle.dm_model.specs.declared.answer.Answer.{Answer}
 use Rattle.dm_model.specs.declared.state.CopyReservation.{CopyReservation}
 use Rattle.dm_model.specs.declared.state.CopyState.{CopyState}
@@ -57,7 +57,7 @@ use Rattle.dm_group_effects.proofs.SideChanges.{KeptAs}
 -- ---- what isn't mounted
 
 -- no mount is open of a volume that isn't mounted
-pub unmounted_of : (group_mounts : Numbered Mounted) (mounts : Numbered MountState) (vsn : List ℕ)
+pub unmounted_of : (group_mounts : ByNumber Mounted) (mounts : ByNumber MountState) (vsn : List ℕ)
     → ((m : ℕ) → map.get group_mounts m ≡ option_map mounted_of (map.get mounts m)) → is_mounted group_mounts vsn ≡ false
     → EachRow mounts (λ m y. y.vsn.0 ≡ vsn → ⊥)
 unmounted_of group_mounts mounts vsn same none = λ m y is at.
@@ -79,7 +79,7 @@ mountable s others vsn same none =
     record { unmounted = unmounted_of s.group.mounts s.mounts vsn same parts.0; drives = ltb-false (free_drives s.group) (others + 1) parts.1 }
 
 -- a step in doubt takes no volume on which a piece is reserved
-module _ (g : ℕ) (entries : Numbered Entry) (contents : Numbered (List ℕ)) (taken deleted : Numbered (Unit {0})) (s : Side) (n : ℕ) (r : Reserved)
+module _ (g : ℕ) (entries : ByNumber Entry) (contents : ByNumber (List ℕ)) (taken deleted : ByNumber (Unit {0})) (s : Side) (n : ℕ) (r : Reserved)
     (p : Piece) (there : map.get s.group.reservations n ≡ Some r) (among : IsAmong p r.pieces)
     (hand : ZoneInHand s.group.tables.volumes s.group.tips r.chunk p) where
   step_spares : (now : ℕ) (x : GroupStep) → MayGroupStep s.group.tables x → GroupStepNeeds g entries contents taken deleted s now x

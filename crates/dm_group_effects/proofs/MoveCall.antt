@@ -19,7 +19,7 @@ use Rattle.dm_durable.specs.declared.group.GroupRecord.{GroupRecord}
 use Rattle.dm_durable.specs.declared.group.GroupStep.TheVariants as step
 use Rattle.dm_durable.specs.Group.{chunk_at}
 use Rattle.dm_durable.specs.GroupConditions.{MayMove}
-use Rattle.dm_durable.specs.Tables.{Named, Numbered}
+use Rattle.dm_durable.specs.Tables.{ByName, ByNumber}
 use Rattle.dm_model.specs.declared.state.GroupHistory.{GroupHistory}
 use Rattle.dm_model.specs.declared.state.Image.{Image}
 use Rattle.dm_model.specs.declared.state.Joint.{Joint}
@@ -71,7 +71,7 @@ chunks_same c d e =
     ∙ ap (λ x. chunk_of d.offset d.len d.vsn.0 d.zone d.place x) (sums_same c.sum d.sum five.1)
 
 -- a bitfile that has the chunk
-record HasChunk (bitfiles : Numbered BitfileRow) (b : ℕ) (c : Chunk) : Type 0 where
+record HasChunk (bitfiles : ByNumber BitfileRow) (b : ℕ) (c : Chunk) : Type 0 where
   row : BitfileRow
   is : map.get bitfiles b ≡ Some row
   at : chunk_at c.offset row.chunks ≡ Some c
@@ -80,7 +80,7 @@ chunk_is : (c : Chunk) (o : Option Chunk) → is_chunk c o ≡ true → o ≡ So
 chunk_is c None e = cc
 chunk_is c (Some d) e = ap (λ x. Some x) (sym (chunks_same c d e))
 
-has_chunk : (bitfiles : Numbered BitfileRow) (b : ℕ) (c : Chunk) (o : Option BitfileRow) → map.get bitfiles b ≡ o
+has_chunk : (bitfiles : ByNumber BitfileRow) (b : ℕ) (c : Chunk) (o : Option BitfileRow) → map.get bitfiles b ≡ o
     → is_chunk c (chunk_in c.offset o) ≡ true → HasChunk bitfiles b c
 has_chunk bitfiles b c None is e = cc
 has_chunk bitfiles b c (Some row) is e = record { row = row; is = is; at = chunk_is c (chunk_at c.offset row.chunks) e }
@@ -121,16 +121,16 @@ was_moved_is x sum o p s t source target e =
     let one = subst (λ a. was_moved x sum a p ≡ true) source e in
     moved_read x sum s t s.read (subst (λ a. was_moved x sum (Some s) a ≡ true) target one)
 
-read_of : (contents : Numbered (List ℕ)) (b : ℕ) (c : Chunk) (o : Option (List ℕ)) (bytes : List ℕ) → o ≡ Some bytes → ReadRight contents b c o
+read_of : (contents : ByNumber (List ℕ)) (b : ℕ) (c : Chunk) (o : Option (List ℕ)) (bytes : List ℕ) → o ≡ Some bytes → ReadRight contents b c o
     → ReadPart contents b c bytes
 read_of contents b c o bytes is right = subst (ReadRight contents b c) is right
 
-written_of : (images : Named Image) (version : ℕ) (c : Chunk) (o : Option (List ℕ)) (zone : List ℕ) → o ≡ Some zone → WrittenRight images version c o
+written_of : (images : ByName Image) (version : ℕ) (c : Chunk) (o : Option (List ℕ)) (zone : List ℕ) → o ≡ Some zone → WrittenRight images version c o
     → TargetWritten images version c zone
 written_of images version c o zone is right = subst (WrittenRight images version c) is right
 
 -- the zone of a moved chunk is known, so its bytes are
-moved_known : (images : Named Image) (version epoch b total : ℕ) (c : Chunk) (zone whole bytes : List ℕ)
+moved_known : (images : ByName Image) (version epoch b total : ℕ) (c : Chunk) (zone whole bytes : List ℕ)
     → c.offset + c.len ≤ length whole → 0 < c.len → part_of whole c.offset c.len ≡ bytes → length bytes ≡ c.len
     → c.place ≡ c.zone + zone_header + chunk_header version
     → zone ≡ zone_of version epoch b total c.offset bytes (length bytes)
@@ -165,8 +165,8 @@ job_of (KeptPlace n offset) other = other
 job_of (Target job) other = job
 job_of (Doubted zone) other = other
 
-module _ (g : ℕ) (entries : Numbered Entry) (contents : Numbered (List ℕ)) (taken : Numbered (Unit {0})) (requests : Numbered OpenRequest)
-    (committed deleted : Numbered (Unit {0})) (s : Side) (kept : SideKept entries contents taken requests g committed deleted s) (job : ℕ) (x : Moving)
+module _ (g : ℕ) (entries : ByNumber Entry) (contents : ByNumber (List ℕ)) (taken : ByNumber (Unit {0})) (requests : ByNumber OpenRequest)
+    (committed deleted : ByNumber (Unit {0})) (s : Side) (kept : SideKept entries contents taken requests g committed deleted s) (job : ℕ) (x : Moving)
     (there : map.get s.group.moves job ≡ Some x) (sum : Option (List ℕ)) where
   abbrev mine : MoveKept contents s.group.tables.volumes s.group.tips s.images s.mounts job x
   mine = kept.moves.moving job x there

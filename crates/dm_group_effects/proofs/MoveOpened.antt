@@ -17,7 +17,7 @@ use Rattle.dm_durable.specs.declared.group.BitfileRow.{BitfileRow}
 use Rattle.dm_durable.specs.declared.group.GroupRecord.{GroupRecord}
 use Rattle.dm_durable.specs.declared.group.VolumeRow.{VolumeRow}
 use Rattle.dm_durable.specs.GroupConditions.{Joins}
-use Rattle.dm_durable.specs.Tables.{Named, Numbered}
+use Rattle.dm_durable.specs.Tables.{ByName, ByNumber}
 use Rattle.dm_durable.specs.Volumes.{Usage, epoch_or}
 use Rattle.dm_model.specs.declared.plan.Opening.TheVariants as opening
 use Rattle.dm_model.specs.declared.state.CopyState.{CopyState}
@@ -57,8 +57,8 @@ chunk_some from to (d ∷ ds) c joins (inl same) = subst (λ (x : Chunk). 0 < x.
 chunk_some from to (d ∷ ds) c joins (inr after) = chunk_some (from + d.len) to ds c joins.2 after
 
 -- a live chunk is one that was once live, under the epoch of its volume
-pub live_once : (entries : Numbered Entry) (contents : Numbered (List ℕ)) (taken : Numbered (Unit {0})) (requests : Numbered OpenRequest)
-    (g : ℕ) (committed deleted : Numbered (Unit {0})) (s : Side) (epoch b : ℕ) (row : BitfileRow) (c : Chunk)
+pub live_once : (entries : ByNumber Entry) (contents : ByNumber (List ℕ)) (taken : ByNumber (Unit {0})) (requests : ByNumber OpenRequest)
+    (g : ℕ) (committed deleted : ByNumber (Unit {0})) (s : Side) (epoch b : ℕ) (row : BitfileRow) (c : Chunk)
     → map.get s.group.tables.bitfiles b ≡ Some row → IsAmong c row.chunks
     → SideKept entries contents taken requests g committed deleted s
     → OnceLive contents s.group.tables.volumes s.images s.group.reservations s.group.moves epoch b c
@@ -102,8 +102,8 @@ bound_at faithful (Some w) v is first =
     or_left _ _ (ap (λ (x : VolumeRow). nat_eq x.version first_version) same ∙ first)
 
 -- a live chunk has bytes; and where it has no sum, it stands on a volume whose reads give what is known
-pub live_reads : (entries : Numbered Entry) (contents : Numbered (List ℕ)) (taken : Numbered (Unit {0})) (requests : Numbered OpenRequest)
-    (g : ℕ) (committed deleted : Numbered (Unit {0})) (s : Side) (b : ℕ) (row : BitfileRow) (c : Chunk)
+pub live_reads : (entries : ByNumber Entry) (contents : ByNumber (List ℕ)) (taken : ByNumber (Unit {0})) (requests : ByNumber OpenRequest)
+    (g : ℕ) (committed deleted : ByNumber (Unit {0})) (s : Side) (b : ℕ) (row : BitfileRow) (c : Chunk)
     → map.get s.group.tables.bitfiles b ≡ Some row → IsAmong c row.chunks
     → SideKept entries contents taken requests g committed deleted s
     → ReadsChunk c (is_bound s.faithful (map.get s.group.tables.volumes c.vsn.0))
@@ -151,7 +151,7 @@ has_moved job q x y vsn place number same covers = record {
   covers = subst (λ (z : Moving). TargetCovers z.version z.to vsn place) same covers;
 }
 
-target_split : (moves : Numbered Moving) (job : ℕ) (x : Moving) (q : ℕ) (vsn : List ℕ) (place : ℕ)
+target_split : (moves : ByNumber Moving) (job : ℕ) (x : Moving) (q : ℕ) (vsn : List ℕ) (place : ℕ)
     → HasTarget (map.insert moves job x) q vsn place → HasMoved job x (Target q) vsn place ⊎ HasTarget moves q vsn place
 target_split moves job x q vsn place h =
     elim (inserted numbers moves job x q h.moving h.is) [
@@ -159,7 +159,7 @@ target_split moves job x q vsn place h =
       | inr was ↦ inr (record { moving = h.moving; is = was.1; covers = h.covers })
     ]
 
-split : (bitfiles : Numbered BitfileRow) (reservations : Numbered Reserved) (moves : Numbered Moving) (doubt : Option GroupRecord) (job : ℕ)
+split : (bitfiles : ByNumber BitfileRow) (reservations : ByNumber Reserved) (moves : ByNumber Moving) (doubt : Option GroupRecord) (job : ℕ)
     (x : Moving) (o : Owner) (vsn : List ℕ) (place : ℕ)
     → HasPlace bitfiles reservations (map.insert moves job x) doubt o vsn place
     → HasMoved job x o vsn place ⊎ HasPlace bitfiles reservations moves doubt o vsn place
@@ -168,7 +168,7 @@ split bitfiles reservations moves doubt job x (Reserving n offset) vsn place h =
 split bitfiles reservations moves doubt job x (Target q) vsn place h = target_split moves job x q vsn place h
 split bitfiles reservations moves doubt job x (Doubted zone) vsn place h = inr h
 
-module _ (u : Usage) (volumes : Named VolumeRow) (job : ℕ) (x : Moving)
+module _ (u : Usage) (volumes : ByName VolumeRow) (job : ℕ) (x : Moving)
     (zone : NewZone u volumes x.to.vsn.0 x.version x.to.zone (x.to.zone + weight x.version x.to.len)) where
   moved_beyond : (o : Owner) (vsn : List ℕ) (place : ℕ) → HasMoved job x o vsn place → BeforeTip volumes u.tips vsn place → ⊥
   moved_beyond o vsn place h before =
@@ -178,7 +178,7 @@ module _ (u : Usage) (volumes : Named VolumeRow) (job : ℕ) (x : Moving)
   one_moved : (o p : Owner) (vsn : List ℕ) (place : ℕ) → HasMoved job x o vsn place → HasMoved job x p vsn place → o ≡ p
   one_moved o p vsn place h i = h.owner ∙ sym i.owner
 
-  once_more : (contents : Numbered (List ℕ)) (images : Named Image) (reservations : Numbered Reserved) (moves : Numbered Moving) (epoch q : ℕ) (c : Chunk)
+  once_more : (contents : ByNumber (List ℕ)) (images : ByName Image) (reservations : ByNumber Reserved) (moves : ByNumber Moving) (epoch q : ℕ) (c : Chunk)
       → ((vsn : List ℕ) (v : VolumeRow) (place : ℕ) → map.get volumes vsn ≡ Some v → place < v.end → BeforeTip volumes u.tips vsn place)
       → OnceLive contents volumes images reservations moves epoch q c
       → OnceLive contents volumes images reservations (map.insert moves job x) epoch q c
@@ -204,7 +204,7 @@ module _ (u : Usage) (volumes : Named VolumeRow) (job : ℕ) (x : Moving)
     };
   }
 
-  mount_once_more : (contents : Numbered (List ℕ)) (images : Named Image) (reservations : Numbered Reserved) (moves : Numbered Moving) (epoch : ℕ)
+  mount_once_more : (contents : ByNumber (List ℕ)) (images : ByName Image) (reservations : ByNumber Reserved) (moves : ByNumber Moving) (epoch : ℕ)
       (o : Origin)
       → ((vsn : List ℕ) (v : VolumeRow) (place : ℕ) → map.get volumes vsn ≡ Some v → place < v.end → BeforeTip volumes u.tips vsn place)
       → MountOnce contents volumes images reservations moves epoch o
@@ -219,8 +219,8 @@ module _ (u : Usage) (volumes : Named VolumeRow) (job : ℕ) (x : Moving)
 
 -- ---- mounts
 
-origin_more : (conf : GroupConf) (reservations : Numbered Reserved) (copies : Numbered CopyState) (moves : Numbered Moving)
-    (reuses : Numbered Reusing) (job : ℕ) (x : Moving) (m : ℕ) (vsn : Vsn) (o : Origin) → map.get moves job ≡ None
+origin_more : (conf : GroupConf) (reservations : ByNumber Reserved) (copies : ByNumber CopyState) (moves : ByNumber Moving)
+    (reuses : ByNumber Reusing) (job : ℕ) (x : Moving) (m : ℕ) (vsn : Vsn) (o : Origin) → map.get moves job ≡ None
     → OriginKept conf reservations copies moves reuses m vsn o → OriginKept conf reservations copies (map.insert moves job x) reuses m vsn o
 origin_more conf reservations copies moves reuses job x m vsn (origin.New listed format) free k = k
 origin_more conf reservations copies moves reuses job x m vsn (origin.Piece b index p chunk) free k = k
@@ -246,7 +246,7 @@ origin_more conf reservations copies moves reuses job x m vsn (origin.Target i b
 origin_more conf reservations copies moves reuses job x m vsn (origin.Reuse next_epoch version reading) free k = k
 
 -- what holds of each mount and of two more
-two_more : (P : ℕ → MountState → Type 0) (mounts : Numbered MountState) (m n : ℕ) (x y : MountState) → P m x → P n y → EachRow mounts P
+two_more : (P : ℕ → MountState → Type 0) (mounts : ByNumber MountState) (m n : ℕ) (x y : MountState) → P m x → P n y → EachRow mounts P
     → EachRow (map.insert (map.insert mounts m x) n y) P
 two_more P mounts m n x y one two each =
     each-insert numbers P (map.insert mounts m x) n y two (each-insert numbers P mounts m x one each)
@@ -254,8 +254,8 @@ two_more P mounts m n x y one two each =
 -- ---- the side
 
 -- a move that begins keeps the side
-pub side_move_opened : (entries : Numbered Entry) (contents : Numbered (List ℕ)) (taken : Numbered (Unit {0})) (requests : Numbered OpenRequest)
-    (g : ℕ) (committed deleted : Numbered (Unit {0})) (s : Side) (h : GroupId) (job source_epoch target_epoch : ℕ) (x : Moving)
+pub side_move_opened : (entries : ByNumber Entry) (contents : ByNumber (List ℕ)) (taken : ByNumber (Unit {0})) (requests : ByNumber OpenRequest)
+    (g : ℕ) (committed deleted : ByNumber (Unit {0})) (s : Side) (h : GroupId) (job source_epoch target_epoch : ℕ) (x : Moving)
     → MoveOpens s job source_epoch target_epoch x
     → SideKept entries contents taken requests g committed deleted s
     → SideKept entries contents taken requests g committed deleted (side_after_opening (opening.Move h job x source_epoch target_epoch) s)

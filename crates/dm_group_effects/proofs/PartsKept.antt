@@ -14,7 +14,7 @@ use Rattle.dm_durable.specs.declared.group.GroupStep.{GroupStep}
 use Rattle.dm_durable.specs.declared.group.GroupStep.TheVariants as step
 use Rattle.dm_durable.specs.declared.group.GroupTables.{GroupTables}
 use Rattle.dm_durable.specs.Group.{group_after_step}
-use Rattle.dm_durable.specs.Tables.{Numbered}
+use Rattle.dm_durable.specs.Tables.{ByNumber}
 use Rattle.dm_model.specs.declared.call.Component.TheVariants as component
 use Rattle.dm_model.specs.declared.plan.Ending.{Ending}
 use Rattle.dm_model.specs.declared.plan.Ending.TheVariants as ending
@@ -45,7 +45,7 @@ use Rattle.dm_group_effects.proofs.SideChanges.{KeptAs, SeenAlike, alike_settled
 
 -- the history after a step of a group: what other groups have done stays
 record Did (g : ℕ) (s : GroupStep) (h : History) : Type 0 where
-  groups : Numbered GroupHistory
+  groups : ByNumber GroupHistory
   is : history_after_group_step g s h ≡ record h { groups = groups }
   others : (q : ℕ) → q ≢ g → map.get groups q ≡ map.get h.groups q
   committed : committed_in (map.get groups g) ≡ committed_after s (committed_in (map.get h.groups g))
@@ -86,7 +86,7 @@ did g (step.Reuse vsn epoch version) h = record { groups = h.groups; is = refl; 
 -- ---- bitfiles after a step
 
 -- a bitfile stays where its entry isn't being dropped
-has_after : (g : ℕ) (entries : Numbered Entry) (contents : Numbered (List ℕ)) (taken deleted : Numbered (Unit {0})) (s : Side) (time : ℕ)
+has_after : (g : ℕ) (entries : ByNumber Entry) (contents : ByNumber (List ℕ)) (taken deleted : ByNumber (Unit {0})) (s : Side) (time : ℕ)
     (t : GroupTables) (x : GroupStep) → EachRow entries (λ b e. e.dropping ≡ is_some (map.get taken b))
     → GroupStepNeeds g entries contents taken deleted s time x
     → (b : ℕ) (e : Entry) → map.get entries b ≡ Some e → e.dropping ≡ false → IsSome (map.get t.bitfiles b)
@@ -137,7 +137,7 @@ IsOfSide (mark.Source g m bytes) = Unit {0}
 IsOfSide (mark.Deleted g b) = ⊥
 
 -- what the group was told to delete isn't there, a hard delete took it, and nothing is in doubt
-pub record Deletes (taken : Numbered (Unit {0})) (s : Side) (b : ℕ) : Type 0 where
+pub record Deletes (taken : ByNumber (Unit {0})) (s : Side) (b : ℕ) : Type 0 where
   pub away : map.get s.group.tables.bitfiles b ≡ None
   pub took : IsSome (map.get taken b)
   pub settled : s.group.doubt ≡ None
@@ -188,9 +188,9 @@ module _ (j : Joint) (kept : InvariantHolds j) (g : GroupId) (s : Side) (side : 
       let lands =
       group_lands t.entries h.contents h.taken j.daemon.requests g.0 (committed_in done) (deleted_in done) s g kept.taken.dropping side_kept r pays.now in
       let more = subst
-      (λ (c : Numbered (Unit {0})). SideKept t.entries h.contents h.taken j.daemon.requests g.0 c (deleted_in done) x) (sym d.committed) lands in
+      (λ (c : ByNumber (Unit {0})). SideKept t.entries h.contents h.taken j.daemon.requests g.0 c (deleted_in done) x) (sym d.committed) lands in
       let keeps : KeptAs j g.0 (map.get d.groups g.0) x = subst
-      (λ (c : Numbered (Unit {0})). SideKept t.entries h.contents h.taken j.daemon.requests g.0 (committed_in (map.get d.groups g.0)) c x)
+      (λ (c : ByNumber (Unit {0})). SideKept t.entries h.contents h.taken j.daemon.requests g.0 (committed_in (map.get d.groups g.0)) c x)
       (sym d.deleted) more in
       let alike : SeenAlike t.entries s x = record {
         has = has_after g.0 t.entries h.contents h.taken (deleted_in done) s r.time.0 (record s.group.tables { time = r.time }) r.step
@@ -293,10 +293,10 @@ module _ (j : Joint) (kept : InvariantHolds j) (g : GroupId) (s : Side) (side : 
         doubt = nothing_in_doubt g.0 t.entries h.contents h.taken (map.insert (deleted_in done) b.0 tt) s s.group.doubt deletes.settled;
       } in
       let one = subst
-      (λ (c : Numbered (Unit {0})). SideKept t.entries h.contents h.taken j.daemon.requests g.0 c (map.insert (deleted_in done) b.0 tt) s)
+      (λ (c : ByNumber (Unit {0})). SideKept t.entries h.contents h.taken j.daemon.requests g.0 c (map.insert (deleted_in done) b.0 tt) s)
       (sym (ap committed_in here ∙ deleted_beside done b.0)) keeps in
       let both : KeptAs j g.0 (map.get groups g.0) s = subst
-      (λ (c : Numbered (Unit {0})). SideKept t.entries h.contents h.taken j.daemon.requests g.0 (committed_in (map.get groups g.0)) c s)
+      (λ (c : ByNumber (Unit {0})). SideKept t.entries h.contents h.taken j.daemon.requests g.0 (committed_in (map.get groups g.0)) c s)
       (sym (ap deleted_in here ∙ deleted_more done b.0)) one in
       side_changes j kept g.0 s s j.sides groups side side (λ q differ. refl) (λ q differ. get-beside numbers h.groups g.0 more q differ)
       (alike_still t.entries s s refl refl) both

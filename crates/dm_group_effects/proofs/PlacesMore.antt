@@ -9,7 +9,7 @@ use Rattle.dm_tables.proofs.Rows.{one_row}
 use Rattle.dm_durable.specs.declared.daemon.Entry.{Entry}
 use Rattle.dm_durable.specs.declared.group.GroupRecord.{GroupRecord}
 use Rattle.dm_durable.specs.declared.group.VolumeRow.{VolumeRow}
-use Rattle.dm_durable.specs.Tables.{Named, Numbered}
+use Rattle.dm_durable.specs.Tables.{ByName, ByNumber}
 use Rattle.dm_durable.specs.Volumes.{Usage, tip_in}
 use Rattle.dm_model.specs.declared.state.OpenRequest.{OpenRequest}
 use Rattle.dm_model.specs.declared.state.Side.{Side}
@@ -22,19 +22,19 @@ use Rattle.dm_invariant.specs.Volumes.{VolumeKept}
 use Rattle.dm_group_effects.proofs.TipsMoved.{NewZone}
 
 -- a place before the tip of its volume
-pub record BeforeTip (volumes : Named VolumeRow) (tips : Named ℕ) (vsn : List ℕ) (place : ℕ) : Type 0 where
+pub record BeforeTip (volumes : ByName VolumeRow) (tips : ByName ℕ) (vsn : List ℕ) (place : ℕ) : Type 0 where
   pub volume : VolumeRow
   pub is : map.get volumes vsn ≡ Some volume
   pub before : place < tip_in tips vsn volume
 
 -- a place before the end of a volume
-pub end_before : (conf : GroupConf) (now : ℕ) (volumes : Named VolumeRow) (tips : Named ℕ) (vsn : List ℕ) (v : VolumeRow) (place : ℕ)
+pub end_before : (conf : GroupConf) (now : ℕ) (volumes : ByName VolumeRow) (tips : ByName ℕ) (vsn : List ℕ) (v : VolumeRow) (place : ℕ)
     → EachRow volumes (VolumeKept conf tips now) → map.get volumes vsn ≡ Some v → place < v.end → BeforeTip volumes tips vsn place
 end_before conf now volumes tips vsn v place kept is low =
     let end = (kept vsn v is).end in record { volume = v; is = is; before = omega (arith, low, end) }
 
 -- those of a chunk are
-chunk_before : (conf : GroupConf) (now : ℕ) (volumes : Named VolumeRow) (tips : Named ℕ) (c : Chunk) (vsn : List ℕ) (place : ℕ)
+chunk_before : (conf : GroupConf) (now : ℕ) (volumes : ByName VolumeRow) (tips : ByName ℕ) (c : Chunk) (vsn : List ℕ) (place : ℕ)
     → EachRow volumes (VolumeKept conf tips now) → LiesBefore volumes c → ChunkCovers c vsn place → BeforeTip volumes tips vsn place
 chunk_before conf now volumes tips c vsn place kept lies covers =
     let within = lies.within in
@@ -42,7 +42,7 @@ chunk_before conf now volumes tips c vsn place kept lies covers =
     end_before conf now volumes tips vsn lies.volume place kept (ap (map.get volumes) (sym covers.same) ∙ lies.is) (omega (arith, within, high))
 
 -- those of a zone in hand
-zone_before : (volumes : Named VolumeRow) (tips : Named ℕ) (chunk : ℕ) (p : Piece) (vsn : List ℕ) (place : ℕ) → ZoneInHand volumes tips chunk p
+zone_before : (volumes : ByName VolumeRow) (tips : ByName ℕ) (chunk : ℕ) (p : Piece) (vsn : List ℕ) (place : ℕ) → ZoneInHand volumes tips chunk p
     → PieceCovers chunk p vsn place → BeforeTip volumes tips vsn place
 zone_before volumes tips chunk p vsn place z covers =
     let tip : tip_in tips p.vsn.0 z.volume ≡ tip_in tips vsn z.volume = ap (λ k. tip_in tips k z.volume) covers.same in
@@ -51,7 +51,7 @@ zone_before volumes tips chunk p vsn place z covers =
     record { volume = z.volume; is = ap (map.get volumes) (sym covers.same) ∙ z.is; before = omega (arith, tip, within, high) }
 
 -- and those of a chunk that is moved
-target_before : (volumes : Named VolumeRow) (tips : Named ℕ) (version : ℕ) (c : Chunk) (vsn : List ℕ) (place : ℕ)
+target_before : (volumes : ByName VolumeRow) (tips : ByName ℕ) (version : ℕ) (c : Chunk) (vsn : List ℕ) (place : ℕ)
     → TargetInHand volumes tips version c → TargetCovers version c vsn place → BeforeTip volumes tips vsn place
 target_before volumes tips version c vsn place z covers =
     let tip : tip_in tips c.vsn.0 z.volume ≡ tip_in tips vsn z.volume = ap (λ k. tip_in tips k z.volume) covers.same in
@@ -63,8 +63,8 @@ not_doubted : (c : Chunk) (o : Option GroupRecord) → o ≡ None → IsDoubted 
 not_doubted c o none is = subst (IsDoubted c) none is
 
 -- all that has places lies before the tips, where nothing is in doubt
-pub owner_before : (entries : Numbered Entry) (contents : Numbered (List ℕ)) (taken : Numbered (Unit {0})) (requests : Numbered OpenRequest)
-    (g : ℕ) (committed deleted : Numbered (Unit {0})) (s : Side) → s.group.doubt ≡ None
+pub owner_before : (entries : ByNumber Entry) (contents : ByNumber (List ℕ)) (taken : ByNumber (Unit {0})) (requests : ByNumber OpenRequest)
+    (g : ℕ) (committed deleted : ByNumber (Unit {0})) (s : Side) → s.group.doubt ≡ None
     → SideKept entries contents taken requests g committed deleted s
     → (o : Owner) (vsn : List ℕ) (place : ℕ)
     → HasPlace s.group.tables.bitfiles s.group.reservations s.group.moves s.group.doubt o vsn place
@@ -81,7 +81,7 @@ owner_before entries contents taken requests g committed deleted s settled k (Do
     absurd (not_doubted has.chunk s.group.doubt settled has.among)
 
 -- what has a place of a new zone doesn't
-pub beyond_tip : (u : Usage) (volumes : Named VolumeRow) (vsn : List ℕ) (version zone end place : ℕ) → NewZone u volumes vsn version zone end
+pub beyond_tip : (u : Usage) (volumes : ByName VolumeRow) (vsn : List ℕ) (version zone end place : ℕ) → NewZone u volumes vsn version zone end
     → zone ≤ place → BeforeTip volumes u.tips vsn place → ⊥
 beyond_tip u volumes vsn version zone end place z low b =
     let same : z.volume ≡ b.volume = one_row volumes vsn vsn z.volume b.volume refl z.is b.is in
@@ -90,7 +90,7 @@ beyond_tip u volumes vsn version zone end place z low b =
     omega (arith, from, low, before)
 
 -- so no place is of two, where each owner is a new one, beyond the tips, or an old one, before them
-pub places_more : (volumes : Named VolumeRow) (tips : Named ℕ) (New Old After : Owner → List ℕ → ℕ → Type 0)
+pub places_more : (volumes : ByName VolumeRow) (tips : ByName ℕ) (New Old After : Owner → List ℕ → ℕ → Type 0)
     → ((o : Owner) (vsn : List ℕ) (place : ℕ) → After o vsn place → New o vsn place ⊎ Old o vsn place)
     → ((o p : Owner) (vsn : List ℕ) (place : ℕ) → New o vsn place → New p vsn place → o ≡ p)
     → ((o : Owner) (vsn : List ℕ) (place : ℕ) → New o vsn place → BeforeTip volumes tips vsn place → ⊥)

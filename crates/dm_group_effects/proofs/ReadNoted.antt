@@ -9,7 +9,7 @@ use Rattle.dm_tables.proofs.Adjusted.{adjusted, each-adjust, each-map, mapped}
 use Rattle.dm_tables.proofs.Orders.{numbers}
 use Rattle.dm_tables.proofs.Rows.{each-empty, each-insert}
 use Rattle.dm_durable.specs.declared.daemon.Entry.{Entry}
-use Rattle.dm_durable.specs.Tables.{Numbered}
+use Rattle.dm_durable.specs.Tables.{ByNumber}
 use Rattle.dm_model.specs.declared.plan.Mark.TheVariants as mark
 use Rattle.dm_model.specs.declared.state.Joint.{Joint}
 use Rattle.dm_model.specs.declared.state.OpenRequest.{OpenRequest}
@@ -21,18 +21,18 @@ use Rattle.dm_invariant.specs.Kept.{InvariantHolds}
 use Rattle.dm_invariant.specs.Requests.{PartAt, RecallKept, RecallsKept}
 
 -- bytes that are read at an offset are a part of the bitfile's content
-abbrev pub ReadFits : Numbered (List ℕ) → ℕ → ℕ → List ℕ → Type 0
+abbrev pub ReadFits : ByNumber (List ℕ) → ℕ → ℕ → List ℕ → Type 0
 ReadFits contents b offset bytes = (whole : List ℕ) → map.get contents b ≡ Some whole → PartAt whole offset bytes
 
 -- each part that was read from a group is one of the whole, also where none was read
-reads_kept : (whole : List ℕ) (r : Option (Numbered (List ℕ)))
-    → ((parts : Numbered (List ℕ)) → r ≡ Some parts → EachRow parts (λ offset part. PartAt whole offset part))
+reads_kept : (whole : List ℕ) (r : Option (ByNumber (List ℕ)))
+    → ((parts : ByNumber (List ℕ)) → r ≡ Some parts → EachRow parts (λ offset part. PartAt whole offset part))
     → EachRow (reads_or r) (λ offset part. PartAt whole offset part)
 reads_kept whole None each = each-empty _ _
 reads_kept whole (Some parts) each = each parts refl
 
 -- a recall with one more read
-noted_kept : (requests : Numbered OpenRequest) (entries : Numbered Entry) (contents : Numbered (List ℕ)) (k g offset : ℕ)
+noted_kept : (requests : ByNumber OpenRequest) (entries : ByNumber Entry) (contents : ByNumber (List ℕ)) (k g offset : ℕ)
     (bytes : List ℕ) (recall : Recall)
     → ReadFits contents recall.bfid.0 offset bytes → RecallKept requests entries contents k recall
     → RecallKept requests entries contents k (with_read g offset bytes recall)
@@ -46,13 +46,13 @@ noted_kept requests entries contents k g offset bytes recall part kept = record 
   len = kept.len;
   asked = kept.asked;
   reads =
-      each-insert numbers (λ (h : ℕ) (parts : Numbered (List ℕ)). EachRow parts (λ at some. PartAt kept.bytes at some)) recall.reads g _
+      each-insert numbers (λ (h : ℕ) (parts : ByNumber (List ℕ)). EachRow parts (λ at some. PartAt kept.bytes at some)) recall.reads g _
       (each-insert numbers (λ at some. PartAt kept.bytes at some) (reads_or (map.get recall.reads g)) offset bytes (part kept.bytes kept.content)
       (reads_kept kept.bytes (map.get recall.reads g) (kept.reads g)))
       kept.reads;
 }
 
-noted_if : (same : Bool) (requests : Numbered OpenRequest) (entries : Numbered Entry) (contents : Numbered (List ℕ)) (k b g offset : ℕ)
+noted_if : (same : Bool) (requests : ByNumber OpenRequest) (entries : ByNumber Entry) (contents : ByNumber (List ℕ)) (k b g offset : ℕ)
     (bytes : List ℕ) (recall : Recall)
     → nat_eq recall.bfid.0 b ≡ same
     → ReadFits contents b offset bytes → RecallKept requests entries contents k recall
@@ -63,7 +63,7 @@ noted_if true requests entries contents k b g offset bytes recall is part kept =
 noted_if false requests entries contents k b g offset bytes recall is part kept = kept
 
 -- the recalls of a worker are those that it had
-had_recall : (workers : Numbered Worker) (w b g offset : ℕ) (bytes : List ℕ) (v k : ℕ) (y : Worker) (s : Recall)
+had_recall : (workers : ByNumber Worker) (w b g offset : ℕ) (bytes : List ℕ) (v k : ℕ) (y : Worker) (s : Recall)
     → map.get (adjust workers w (worker_with_read b g offset bytes)) v ≡ Some y → map.get y.recalls k ≡ Some s
     → (x : Worker) × (r : Recall) × (map.get workers v ≡ Some x) × (map.get x.recalls k ≡ Some r)
 had_recall workers w b g offset bytes v k y s e has =
@@ -77,7 +77,7 @@ had_recall workers w b g offset bytes v k y s e has =
       | inr other ↦ (y, s, other.1, has)
     ]
 
-recalls_read_noted : (workers : Numbered Worker) (requests : Numbered OpenRequest) (entries : Numbered Entry) (contents : Numbered (List ℕ))
+recalls_read_noted : (workers : ByNumber Worker) (requests : ByNumber OpenRequest) (entries : ByNumber Entry) (contents : ByNumber (List ℕ))
     → RecallsKept workers requests entries contents → (w g b offset : ℕ) (bytes : List ℕ) → ReadFits contents b offset bytes
     → RecallsKept (adjust workers w (worker_with_read b g offset bytes)) requests entries contents
 recalls_read_noted workers requests entries contents kept w g b offset bytes part = record {

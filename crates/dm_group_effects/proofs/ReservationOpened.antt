@@ -17,7 +17,7 @@ use Rattle.dm_durable.specs.declared.daemon.Entry.{Entry}
 use Rattle.dm_durable.specs.declared.group.BitfileRow.{BitfileRow}
 use Rattle.dm_durable.specs.declared.group.GroupRecord.{GroupRecord}
 use Rattle.dm_durable.specs.declared.group.VolumeRow.{VolumeRow}
-use Rattle.dm_durable.specs.Tables.{Named, Numbered}
+use Rattle.dm_durable.specs.Tables.{ByName, ByNumber}
 use Rattle.dm_durable.specs.Volumes.{Usage, planned_pieces, spaces}
 use Rattle.dm_model.specs.declared.plan.Opening.TheVariants as opening
 use Rattle.dm_model.specs.declared.state.CopyReservation.{CopyReservation}
@@ -76,12 +76,12 @@ free_number (Some x) n next below new = let f = below x refl in absurd (omega (a
 abbrev new_reservation : ℕ → CopyReservation
 new_reservation n = record { number = n; mounts = map.empty; written = map.empty }
 
-abbrev copies_opened : ℕ → ℕ → Numbered CopyState → Numbered CopyState
+abbrev copies_opened : ℕ → ℕ → ByNumber CopyState → ByNumber CopyState
 copies_opened n b copies = adjust copies b (with_reservation (Some (new_reservation n)))
 
-module _ (reservations : Numbered Reserved) (copies : Numbered CopyState) (n : ℕ) (r : Reserved) (c : CopyState)
+module _ (reservations : ByNumber Reserved) (copies : ByNumber CopyState) (n : ℕ) (r : Reserved) (c : CopyState)
     (free : map.get reservations n ≡ None) (is : map.get copies r.bfid.0 ≡ Some c) (none : c.reservation ≡ None) where
-  abbrev copies_after : Numbered CopyState
+  abbrev copies_after : ByNumber CopyState
   copies_after = copies_opened n r.bfid.0 copies
 
   -- a copy with a reservation is another one, and stays
@@ -91,7 +91,7 @@ module _ (reservations : Numbered Reserved) (copies : Numbered CopyState) (n : �
       (λ e there. ap (λ (x : CopyState). x.reservation) (same_row (map.get copies r.bfid.0) e c there is) ∙ none) at has in
       adjusted-beside numbers copies r.bfid.0 (with_reservation (Some (new_reservation n))) q differ ∙ at
 
-  origin_more : (conf : GroupConf) (moves : Numbered Moving) (reuses : Numbered Reusing) (m : ℕ) (vsn : Vsn) (o : Origin)
+  origin_more : (conf : GroupConf) (moves : ByNumber Moving) (reuses : ByNumber Reusing) (m : ℕ) (vsn : Vsn) (o : Origin)
       → OriginKept conf reservations copies moves reuses m vsn o
       → OriginKept conf (map.insert reservations n r) copies_after moves reuses m vsn o
   origin_more conf moves reuses m vsn (origin.New listed format) k = k
@@ -113,7 +113,7 @@ module _ (reservations : Numbered Reserved) (copies : Numbered CopyState) (n : �
   origin_more conf moves reuses m vsn (origin.Target job d total e version) k = k
   origin_more conf moves reuses m vsn (origin.Reuse next_epoch version reading) k = k
 
-  reservation_beside : (bitfiles : Numbered BitfileRow) (volumes : Named VolumeRow) (tips : Named ℕ) (images : Named Image) (q : ℕ) (x : Reserved)
+  reservation_beside : (bitfiles : ByNumber BitfileRow) (volumes : ByName VolumeRow) (tips : ByName ℕ) (images : ByName Image) (q : ℕ) (x : Reserved)
       → ReservationKept bitfiles volumes tips images copies q x → ReservationKept bitfiles volumes tips images copies_after q x
   reservation_beside bitfiles volumes tips images q x k = record {
     copy = k.copy;
@@ -130,7 +130,7 @@ module _ (reservations : Numbered Reserved) (copies : Numbered CopyState) (n : �
   }
 
   -- the copy has the new reservation
-  copies_kept : (g : ℕ) (entries : Numbered Entry) (contents : Numbered (List ℕ)) (requests : Numbered OpenRequest)
+  copies_kept : (g : ℕ) (entries : ByNumber Entry) (contents : ByNumber (List ℕ)) (requests : ByNumber OpenRequest)
       → EachRow copies (CopyKept g entries contents requests reservations)
       → EachRow copies_after (CopyKept g entries contents requests (map.insert reservations n r))
   copies_kept g entries contents requests each = λ q d at.
@@ -186,7 +186,7 @@ has_piece n r x q offset vsn place p number same a at covers = record {
   covers = subst (λ (y : Reserved). PieceCovers y.chunk p vsn place) same covers;
 }
 
-kept_split : (reservations : Numbered Reserved) (n : ℕ) (r : Reserved) (q offset : ℕ) (vsn : List ℕ) (place : ℕ)
+kept_split : (reservations : ByNumber Reserved) (n : ℕ) (r : Reserved) (q offset : ℕ) (vsn : List ℕ) (place : ℕ)
     → HasReserving (map.insert reservations n r) q offset vsn place
     → HasPiece n r (Reserving q offset) vsn place ⊎ HasReserving reservations q offset vsn place
 kept_split reservations n r q offset vsn place h =
@@ -195,7 +195,7 @@ kept_split reservations n r q offset vsn place h =
       | inr was ↦ inr (record { reserved = h.reserved; is = was.1; piece = h.piece; among = h.among; at = h.at; covers = h.covers })
     ]
 
-split : (bitfiles : Numbered BitfileRow) (reservations : Numbered Reserved) (moves : Numbered Moving) (doubt : Option GroupRecord) (n : ℕ)
+split : (bitfiles : ByNumber BitfileRow) (reservations : ByNumber Reserved) (moves : ByNumber Moving) (doubt : Option GroupRecord) (n : ℕ)
     (r : Reserved) (o : Owner) (vsn : List ℕ) (place : ℕ)
     → HasPlace bitfiles (map.insert reservations n r) moves doubt o vsn place
     → HasPiece n r o vsn place ⊎ HasPlace bitfiles reservations moves doubt o vsn place
@@ -204,7 +204,7 @@ split bitfiles reservations moves doubt n r (Reserving q offset) vsn place h = k
 split bitfiles reservations moves doubt n r (Target job) vsn place h = inr h
 split bitfiles reservations moves doubt n r (Doubted zone) vsn place h = inr h
 
-module _ (u : Usage) (volumes : Named VolumeRow) (reuses : Numbered Reusing) (new : Named ℕ) (n : ℕ) (b : Bfid) (len : ℕ) (ps : List Piece)
+module _ (u : Usage) (volumes : ByName VolumeRow) (reuses : ByNumber Reusing) (new : ByName ℕ) (n : ℕ) (b : Bfid) (len : ℕ) (ps : List Piece)
     (laid : LaidOut u volumes reuses new ps) where
   abbrev made : Reserved
   made = record { bfid = b; len = len; chunk = u.chunk; pieces = ps }
@@ -222,7 +222,7 @@ module _ (u : Usage) (volumes : Named VolumeRow) (reuses : Numbered Reusing) (ne
       ∙ sym i.owner
 
   -- a chunk that was once live lies before the tips
-  once_more : (contents : Numbered (List ℕ)) (images : Named Image) (reservations : Numbered Reserved) (moves : Numbered Moving) (epoch q : ℕ) (c : Chunk)
+  once_more : (contents : ByNumber (List ℕ)) (images : ByName Image) (reservations : ByNumber Reserved) (moves : ByNumber Moving) (epoch q : ℕ) (c : Chunk)
       → ((vsn : List ℕ) (v : VolumeRow) (place : ℕ) → map.get volumes vsn ≡ Some v → place < v.end → BeforeTip volumes u.tips vsn place)
       → OnceLive contents volumes images reservations moves epoch q c
       → OnceLive contents volumes images (map.insert reservations n made) moves epoch q c
@@ -248,7 +248,7 @@ module _ (u : Usage) (volumes : Named VolumeRow) (reuses : Numbered Reusing) (ne
     };
   }
 
-  mount_once_more : (contents : Numbered (List ℕ)) (images : Named Image) (reservations : Numbered Reserved) (moves : Numbered Moving) (epoch : ℕ)
+  mount_once_more : (contents : ByNumber (List ℕ)) (images : ByName Image) (reservations : ByNumber Reserved) (moves : ByNumber Moving) (epoch : ℕ)
       (o : Origin)
       → ((vsn : List ℕ) (v : VolumeRow) (place : ℕ) → map.get volumes vsn ≡ Some v → place < v.end → BeforeTip volumes u.tips vsn place)
       → MountOnce contents volumes images reservations moves epoch o
@@ -282,8 +282,8 @@ module _ (u : Usage) (volumes : Named VolumeRow) (reuses : Numbered Reusing) (ne
 -- ---- the side
 
 -- a reservation that begins keeps the side
-pub side_reservation_opened : (entries : Numbered Entry) (contents : Numbered (List ℕ)) (taken : Numbered (Unit {0})) (requests : Numbered OpenRequest)
-    (g : ℕ) (committed deleted : Numbered (Unit {0})) (s : Side) (h : GroupId) (b : Bfid) (len n : ℕ)
+pub side_reservation_opened : (entries : ByNumber Entry) (contents : ByNumber (List ℕ)) (taken : ByNumber (Unit {0})) (requests : ByNumber OpenRequest)
+    (g : ℕ) (committed deleted : ByNumber (Unit {0})) (s : Side) (h : GroupId) (b : Bfid) (len n : ℕ)
     → ReservationOpens s b len n
     → SideKept entries contents taken requests g committed deleted s
     → SideKept entries contents taken requests g committed deleted (side_after_opening (opening.Reservation h n (reserved_for s.group b len)) s)

@@ -10,7 +10,7 @@ use Rattle.dm_durable.specs.declared.daemon.DaemonStep.TheVariants.{Write, Remov
 use Rattle.dm_durable.specs.declared.daemon.DaemonTables.{DaemonTables}
 use Rattle.dm_durable.specs.declared.daemon.Entry.{Entry}
 use Rattle.dm_durable.specs.DaemonConditions.{MayStep}
-use Rattle.dm_durable.specs.Tables.{Numbered}
+use Rattle.dm_durable.specs.Tables.{ByNumber}
 use Rattle.dm_model.specs.declared.state.GroupHistory.{GroupHistory}
 use Rattle.dm_model.specs.declared.state.Joint.{Joint}
 use Rattle.dm_model.specs.declared.state.OpenRequest.{OpenRequest}
@@ -21,13 +21,13 @@ use Rattle.dm_invariant.proofs.Options.{has_value, same_row}
 
 -- what a step of the daemon in doubt looks at in a group: a bitfile that isn't being dropped stays, and one that is being
 -- dropped doesn't come
-pub record SeenAlike (entries : Numbered Entry) (s x : Side) : Type 0 where
+pub record SeenAlike (entries : ByNumber Entry) (s x : Side) : Type 0 where
   pub has : (b : ℕ) (e : Entry) → map.get entries b ≡ Some e → e.dropping ≡ false → IsSome (map.get s.group.tables.bitfiles b)
       → IsSome (map.get x.group.tables.bitfiles b)
   pub gets : (b : ℕ) (e : Entry) → map.get entries b ≡ Some e → e.dropping ≡ true → NotInGroup b s → NotInGroup b x
 
 -- it sees the same where bitfiles and doubts stay
-pub alike_still : (entries : Numbered Entry) (s x : Side) → x.group.tables.bitfiles ≡ s.group.tables.bitfiles → x.group.doubt ≡ s.group.doubt
+pub alike_still : (entries : ByNumber Entry) (s x : Side) → x.group.tables.bitfiles ≡ s.group.tables.bitfiles → x.group.doubt ≡ s.group.doubt
     → SeenAlike entries s x
 alike_still entries s x bitfiles doubt = record {
   has = λ b e is lasting there. subst (λ m. IsSome (map.get m b)) (sym bitfiles) there;
@@ -38,7 +38,7 @@ alike_still entries s x bitfiles doubt = record {
 }
 
 -- and where nothing is in doubt any more
-pub alike_settled : (entries : Numbered Entry) (s x : Side) → x.group.tables.bitfiles ≡ s.group.tables.bitfiles → x.group.doubt ≡ None
+pub alike_settled : (entries : ByNumber Entry) (s x : Side) → x.group.tables.bitfiles ≡ s.group.tables.bitfiles → x.group.doubt ≡ None
     → SeenAlike entries s x
 alike_settled entries s x bitfiles none = record {
   has = λ b e is lasting there. subst (λ m. IsSome (map.get m b)) (sym bitfiles) there;
@@ -50,7 +50,7 @@ alike_settled entries s x bitfiles none = record {
 
 -- ---- the sides with one of them changed
 
-module _ (g : ℕ) (sides later : Numbered Side) (s x : Side) (side : map.get sides g ≡ Some s) (now : map.get later g ≡ Some x)
+module _ (g : ℕ) (sides later : ByNumber Side) (s x : Side) (side : map.get sides g ≡ Some s) (now : map.get later g ≡ Some x)
     (beside : (q : ℕ) → q ≢ g → map.get later q ≡ map.get sides q) where
   configured_later : (q : ℕ) → IsSome (map.get sides q) → IsSome (map.get later q)
   configured_later q there =
@@ -68,7 +68,7 @@ module _ (g : ℕ) (sides later : Numbered Side) (s x : Side) (side : map.get si
         | inr differ ↦ others q y differ (sym (beside q differ) ∙ is)
       ]
 
-  module _ (entries : Numbered Entry) (alike : SeenAlike entries s x) where
+  module _ (entries : ByNumber Entry) (alike : SeenAlike entries s x) where
     in_group_later : (h b : ℕ) (e : Entry) → map.get entries b ≡ Some e → e.dropping ≡ false → InGroup sides h b → InGroup later h b
     in_group_later h b e is lasting k =
         elim (same_or numbers g h) [
@@ -87,7 +87,7 @@ module _ (g : ℕ) (sides later : Numbered Side) (s x : Side) (side : map.get si
     not_in_group_later b e is dropping none =
         each_later (λ q y. NotInGroup b y) (alike.gets b e is dropping (none g s side)) (λ q y differ at. none q y at)
 
-  needs_later : (t : DaemonTables) (requests : Numbered OpenRequest) (contents : Numbered (List ℕ)) (cap time : ℕ) (step : DaemonStep)
+  needs_later : (t : DaemonTables) (requests : ByNumber OpenRequest) (contents : ByNumber (List ℕ)) (cap time : ℕ) (step : DaemonStep)
       → SeenAlike t.entries s x → MayStep t time step
       → StepNeeds t requests contents cap sides step → StepNeeds t requests contents cap later step
   needs_later t requests contents cap time (Write path change bytes) alike may needs = needs
@@ -108,7 +108,7 @@ module _ (g : ℕ) (sides later : Numbered Side) (s x : Side) (side : map.get si
   needs_later t requests contents cap time Restart alike may needs = needs
   needs_later t requests contents cap time (Age age) alike may needs = needs
 
-  lands_later : (t : DaemonTables) (requests : Numbered OpenRequest) (contents : Numbered (List ℕ)) (cap : ℕ) (o : Option DaemonRecord)
+  lands_later : (t : DaemonTables) (requests : ByNumber OpenRequest) (contents : ByNumber (List ℕ)) (cap : ℕ) (o : Option DaemonRecord)
       → SeenAlike t.entries s x → MayLandIf t requests contents cap sides o → MayLandIf t requests contents cap later o
   lands_later t requests contents cap None alike lands = tt
   lands_later t requests contents cap (Some r) alike lands = record {
@@ -119,7 +119,7 @@ module _ (g : ℕ) (sides later : Numbered Side) (s x : Side) (side : map.get si
 -- ---- the joint state
 
 -- the state with these sides, and this of what groups have done
-abbrev pub with_sides : Numbered Side → Numbered GroupHistory → Joint → Joint
+abbrev pub with_sides : ByNumber Side → ByNumber GroupHistory → Joint → Joint
 with_sides sides groups j = record j { sides = sides; history = record j.history { groups = groups } }
 
 -- what is kept of a side of the state, by what its group has done
@@ -127,7 +127,7 @@ abbrev pub KeptAs : Joint → ℕ → Option GroupHistory → Side → Type 0
 KeptAs j g h x =
     SideKept j.daemon.tables.entries j.history.contents j.history.taken j.daemon.requests g (committed_in h) (deleted_in h) x
 
-pub side_changes : (j : Joint) → InvariantHolds j → (g : ℕ) (s x : Side) (sides : Numbered Side) (groups : Numbered GroupHistory)
+pub side_changes : (j : Joint) → InvariantHolds j → (g : ℕ) (s x : Side) (sides : ByNumber Side) (groups : ByNumber GroupHistory)
     → map.get j.sides g ≡ Some s → map.get sides g ≡ Some x → ((q : ℕ) → q ≢ g → map.get sides q ≡ map.get j.sides q)
     → ((q : ℕ) → q ≢ g → map.get groups q ≡ map.get j.history.groups q)
     → SeenAlike j.daemon.tables.entries s x → KeptAs j g (map.get groups g) x

@@ -24,7 +24,7 @@ use Rattle.dm_rules.specs.Zone.{chunk_count, weight, zone_length}
 use Rattle.dm_tables.proofs.Entries.{first, second, less, entries-found}
 use Rattle.dm_tables.proofs.Orders.{paths}
 use Rattle.dm_zone.proofs.RoomLemmas.{bytes_fit, room_none, room_some}
-use Rattle.dm_durable.specs.Tables.{Named}
+use Rattle.dm_durable.specs.Tables.{ByName}
 use Rattle.dm_durable.specs.declared.group.VolumeRow.{VolumeRow}
 use Rattle.dm_durable.specs.Volumes.{Usage, destination_in, is_listed, of_serial, room_in, space_if, space_of, spaces, target_spaces, tip_in}
 use Rattle.dm_invariant.specs.Among.{IsAmong}
@@ -34,7 +34,7 @@ use Rattle.dm_invariant.proofs.Lists.{among_either, among_if}
 -- ---- the spaces of a group
 
 -- a space is a volume that isn't held, with its tip and its room
-pub record SpaceOf (u : Usage) (volumes : Named VolumeRow) (sp : Space) : Type 0 where
+pub record SpaceOf (u : Usage) (volumes : ByName VolumeRow) (sp : Space) : Type 0 where
   pub volume : VolumeRow
   pub is : map.get volumes sp.vsn.0 ≡ Some volume
   pub usable : volume.held ≡ None
@@ -50,7 +50,7 @@ abbrev pub SpacesApart : List Space → Type 0
 SpacesApart [] = Unit {0}
 SpacesApart (sp ∷ sps) = NoneOn sp.vsn.0 sps × SpacesApart sps
 
-module _ (u : Usage) (volumes : Named VolumeRow) where
+module _ (u : Usage) (volumes : ByName VolumeRow) where
   -- the spaces of some entries
   abbrev spaces_in : List (List ℕ × VolumeRow) → List Space
   spaces_in es = flat_map (λ e. of_serial e.0 (space_if u e.0 e.1 e.1.held)) es
@@ -295,7 +295,7 @@ zone_longer version chunk n positive some =
 -- ---- the volume that takes a moved chunk
 
 -- one that isn't mounted, nor one of the list, with room for the bytes
-pub record Destination (u : Usage) (listed : List Vsn) (volumes : Named VolumeRow) (len : ℕ) (sp : Space) : Type 0 where
+pub record Destination (u : Usage) (listed : List Vsn) (volumes : ByName VolumeRow) (len : ℕ) (sp : Space) : Type 0 where
   pub of : SpaceOf u volumes sp
   pub unmounted : u.mounted sp.vsn.0 ≡ false
   pub unlisted : is_listed listed sp.vsn.0 ≡ false
@@ -319,7 +319,7 @@ either_found : (len : ℕ) (sps : List Space) (sp : Space) (o : Option Space) �
 either_found len sps sp None is e = first_found first_version len sps sp e
 either_found len sps sp (Some x) is e = first_found second_version len sps sp (is ∙ e)
 
-module _ (u : Usage) (listed : List Vsn) (volumes : Named VolumeRow) where
+module _ (u : Usage) (listed : List Vsn) (volumes : ByName VolumeRow) where
   abbrev targets_in : List (List ℕ × VolumeRow) → List Space
   targets_in es =
       flat_map (λ e. of_serial e.0 (cond (u.mounted e.0 || is_listed listed e.0) [] (space_if u e.0 e.1 e.1.held))) es

@@ -26,7 +26,7 @@ use Rattle.dm_durable.specs.declared.group.GroupRecord.{GroupRecord}
 use Rattle.dm_durable.specs.declared.group.GroupStep.TheVariants as step
 use Rattle.dm_durable.specs.declared.group.VolumeRow.{VolumeRow}
 use Rattle.dm_durable.specs.Group.{has_chunk_on, is_on}
-use Rattle.dm_durable.specs.Tables.{Numbered, same_text}
+use Rattle.dm_durable.specs.Tables.{ByNumber, same_text}
 use Rattle.dm_durable.specs.Volumes.{is_freeable_in, room_in, spaces, tip_in}
 use Rattle.dm_model.specs.declared.call.Component.TheVariants as component
 use Rattle.dm_model.specs.declared.plan.Payload.TheVariants as payload
@@ -67,7 +67,7 @@ use Rattle.dm_group_effects.proofs.SideChanges.{KeptAs}
 
 -- ---- places of a record that puts nothing on volumes
 
-puts_none : (bitfiles : Numbered BitfileRow) (reservations : Numbered Reserved) (moves : Numbered Moving) (doubt : Option GroupRecord)
+puts_none : (bitfiles : ByNumber BitfileRow) (reservations : ByNumber Reserved) (moves : ByNumber Moving) (doubt : Option GroupRecord)
     (r : GroupRecord) → ((c : Chunk) → IsPut c r.step → ⊥) → (o : Owner) (vsn : List ℕ) (place : ℕ)
     → HasPlace bitfiles reservations moves (Some r) o vsn place → HasPlace bitfiles reservations moves doubt o vsn place
 puts_none bitfiles reservations moves doubt r none (Live b offset) vsn place h = h
@@ -75,7 +75,7 @@ puts_none bitfiles reservations moves doubt r none (KeptPlace n offset) vsn plac
 puts_none bitfiles reservations moves doubt r none (Target job) vsn place h = h
 puts_none bitfiles reservations moves doubt r none (Doubted zone) vsn place h = absurd (none h.chunk h.among)
 
-pub places_without : (bitfiles : Numbered BitfileRow) (reservations : Numbered Reserved) (moves : Numbered Moving) (doubt : Option GroupRecord)
+pub places_without : (bitfiles : ByNumber BitfileRow) (reservations : ByNumber Reserved) (moves : ByNumber Moving) (doubt : Option GroupRecord)
     (r : GroupRecord) → ((c : Chunk) → IsPut c r.step → ⊥)
     → PlacesKept bitfiles reservations moves doubt → PlacesKept bitfiles reservations moves (Some r)
 places_without bitfiles reservations moves doubt r none k = λ o p vsn place one two.
@@ -89,7 +89,7 @@ mount_there None x e = absurd (cc)
 mount_there (Some y) x e = (y, refl, cc)
 
 -- once a mount has ended, no other is of its volume
-pub unmounted_after : (mounts : Numbered MountState) (m : ℕ) (y : MountState) (vsn : List ℕ) → map.get mounts m ≡ Some y → y.vsn.0 ≡ vsn
+pub unmounted_after : (mounts : ByNumber MountState) (m : ℕ) (y : MountState) (vsn : List ℕ) → map.get mounts m ≡ Some y → y.vsn.0 ≡ vsn
     → ((p q : ℕ) (a b : MountState) → map.get mounts p ≡ Some a → map.get mounts q ≡ Some b → a.vsn.0 ≡ b.vsn.0 → p ≡ q)
     → EachRow (map.remove mounts m) (λ q z. z.vsn.0 ≡ vsn → ⊥)
 unmounted_after mounts m y vsn is volume apart = λ q z at same.
@@ -139,7 +139,7 @@ module _ (s : Side) where
 -- ---- what is free
 
 -- no piece is reserved on a volume that isn't reserved
-unreserved_of : (reservations : Numbered Reserved) (vsn : List ℕ) → is_reserved reservations vsn ≡ false
+unreserved_of : (reservations : ByNumber Reserved) (vsn : List ℕ) → is_reserved reservations vsn ≡ false
     → EachRow reservations (λ n r. (p : Piece) → IsAmong p r.pieces → p.vsn.0 ≡ vsn → ⊥)
 unreserved_of reservations vsn none = λ n r is p among same.
     let fails = any-false numbers (λ q (x : Reserved). has_piece_on vsn x) reservations none n r is in

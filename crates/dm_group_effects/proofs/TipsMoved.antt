@@ -10,7 +10,7 @@ use Rattle.dm_rules.specs.Zone.{weight, zone_length}
 use Rattle.dm_tables.specs.Rows.{EachRow}
 use Rattle.dm_tables.proofs.Orders.{paths, same_or}
 use Rattle.dm_tables.proofs.Rows.{one_row, get-here, get-beside}
-use Rattle.dm_durable.specs.Tables.{Named, Numbered}
+use Rattle.dm_durable.specs.Tables.{ByName, ByNumber}
 use Rattle.dm_durable.specs.declared.group.VolumeRow.{VolumeRow}
 use Rattle.dm_durable.specs.Volumes.{Usage, spaces, tip_in, tip_or}
 use Rattle.dm_model.specs.declared.state.Group.{Group}
@@ -30,7 +30,7 @@ room_taken true n r some fits = absurd (omega (arith, some, fits))
 room_taken false n r some fits = (refl, fits)
 
 -- a zone that is laid out on a volume that isn't held, nor about to be used again: from its tip, within its size
-pub record NewZone (u : Usage) (volumes : Named VolumeRow) (vsn : List ℕ) (version zone end : ℕ) : Type 0 where
+pub record NewZone (u : Usage) (volumes : ByName VolumeRow) (vsn : List ℕ) (version zone end : ℕ) : Type 0 where
   pub volume : VolumeRow
   pub is : map.get volumes vsn ≡ Some volume
   pub usable : volume.held ≡ None
@@ -41,11 +41,11 @@ pub record NewZone (u : Usage) (volumes : Named VolumeRow) (vsn : List ℕ) (ver
   pub free : u.reused vsn ≡ false
 
 -- the bounds of tips
-abbrev pub TipsFit : Named VolumeRow → Named ℕ → Type 0
+abbrev pub TipsFit : ByName VolumeRow → ByName ℕ → Type 0
 TipsFit volumes tips = (vsn : List ℕ) (v : VolumeRow) → map.get volumes vsn ≡ Some v → tip_in tips vsn v ≤ v.size
 
 -- one on a space for which that has room
-pub new_zone : (u : Usage) (volumes : Named VolumeRow) (sp : Space) (n : ℕ) → 0 < u.chunk → TipsFit volumes u.tips → SpaceOf u volumes sp → 0 < n
+pub new_zone : (u : Usage) (volumes : ByName VolumeRow) (sp : Space) (n : ℕ) → 0 < u.chunk → TipsFit volumes u.tips → SpaceOf u volumes sp → 0 < n
     → n ≤ sp.room → NewZone u volumes sp.vsn.0 sp.version sp.tip (sp.tip + zone_length sp.version u.chunk n)
 new_zone u volumes sp n positive bound of some room_for =
     let v = of.volume in
@@ -68,7 +68,7 @@ new_zone u volumes sp n positive bound of some room_for =
     }
 
 -- so is the zone of a chunk alone
-pub new_target : (u : Usage) (volumes : Named VolumeRow) (sp : Space) (n : ℕ) → 0 < u.chunk → TipsFit volumes u.tips → SpaceOf u volumes sp → 0 < n
+pub new_target : (u : Usage) (volumes : ByName VolumeRow) (sp : Space) (n : ℕ) → 0 < u.chunk → TipsFit volumes u.tips → SpaceOf u volumes sp → 0 < n
     → n ≤ sp.room → NewZone u volumes sp.vsn.0 sp.version sp.tip (sp.tip + weight sp.version n)
 new_target u volumes sp n positive bound of some room_for =
     let z = new_zone u volumes sp n positive bound of some room_for in
@@ -86,10 +86,10 @@ new_target u volumes sp n positive bound of some room_for =
     }
 
 -- the zone of a piece
-abbrev pub NewPiece : Usage → Named VolumeRow → Piece → Type 0
+abbrev pub NewPiece : Usage → ByName VolumeRow → Piece → Type 0
 NewPiece u volumes p = NewZone u volumes p.vsn.0 p.version p.zone (zone_end u.chunk p)
 
-new_piece : (u : Usage) (volumes : Named VolumeRow) (sps : List Space) (p : Piece) → 0 < u.chunk → TipsFit volumes u.tips → (f : PieceFrom sps p)
+new_piece : (u : Usage) (volumes : ByName VolumeRow) (sps : List Space) (p : Piece) → 0 < u.chunk → TipsFit volumes u.tips → (f : PieceFrom sps p)
     → SpaceOf u volumes f.space → NewPiece u volumes p
 new_piece u volumes sps p positive bound f of =
     let z = new_zone u volumes f.space p.len positive bound of f.some f.fits in
@@ -101,7 +101,7 @@ new_piece u volumes sps p positive bound f of =
 -- ---- tips
 
 -- the tip of a volume after pieces have moved the tips: behind the zone of one of the pieces on it, or as before
-data Moved (chunk : ℕ) (ps : List Piece) (tips : Named ℕ) (vsn : List ℕ) : Type 0 where
+data Moved (chunk : ℕ) (ps : List Piece) (tips : ByName ℕ) (vsn : List ℕ) : Type 0 where
   Behind : (p : Piece) → IsAmong p ps → p.vsn.0 ≡ vsn → map.get (tips_behind chunk ps tips) vsn ≡ Some (as_word (zone_end chunk p))
       → Moved chunk ps tips vsn
   Unmoved : ((p : Piece) → IsAmong p ps → p.vsn.0 ≡ vsn → ⊥) → map.get (tips_behind chunk ps tips) vsn ≡ map.get tips vsn → Moved chunk ps tips vsn
@@ -112,7 +112,7 @@ none_of_two q ps vsn differ none p (inl same) at = differ (sym at ∙ ap (λ (x 
 none_of_two q ps vsn differ none p (inr a) at = none p a at
 
 -- which of the two it is
-moved : (chunk : ℕ) (ps : List Piece) (tips : Named ℕ) (vsn : List ℕ) → Moved chunk ps tips vsn
+moved : (chunk : ℕ) (ps : List Piece) (tips : ByName ℕ) (vsn : List ℕ) → Moved chunk ps tips vsn
 moved chunk [] tips vsn = Unmoved (λ p a at. a) refl
 moved chunk (q ∷ ps) tips vsn =
     let e = as_word (zone_end chunk q) in
@@ -126,19 +126,19 @@ moved chunk (q ∷ ps) tips vsn =
 
 -- where pieces were laid out: each has a zone from the old tip of its volume up to the new one, no two are on one volume,
 -- and tips rise
-pub record LaidOut (u : Usage) (volumes : Named VolumeRow) (reuses : Numbered Reusing) (new : Named ℕ) (ps : List Piece) : Type 0 where
+pub record LaidOut (u : Usage) (volumes : ByName VolumeRow) (reuses : ByNumber Reusing) (new : ByName ℕ) (ps : List Piece) : Type 0 where
   pub zones : (p : Piece) → IsAmong p ps → NewPiece u volumes p
   pub reserved : (p : Piece) (v : VolumeRow) → IsAmong p ps → map.get volumes p.vsn.0 ≡ Some v → zone_end u.chunk p ≤ tip_in new p.vsn.0 v
   pub apart : (p q : Piece) → IsAmong p ps → IsAmong q ps → p.vsn.0 ≡ q.vsn.0 → p ≡ q
   pub rise : TipsRise volumes reuses u.tips new
 
 -- a tip that is put behind a new zone
-pub record TipBehind (u : Usage) (new : Named ℕ) (vsn : List ℕ) (end : ℕ) (v : VolumeRow) : Type 0 where
+pub record TipBehind (u : Usage) (new : ByName ℕ) (vsn : List ℕ) (end : ℕ) (v : VolumeRow) : Type 0 where
   pub tip : tip_in new vsn v ≡ end
   pub grows : tip_in u.tips vsn v ≤ tip_in new vsn v
   pub within : tip_in new vsn v ≤ v.size
 
-pub tip_behind : (u : Usage) (volumes : Named VolumeRow) (new : Named ℕ) (vsn : List ℕ) (version zone end : ℕ) (v : VolumeRow)
+pub tip_behind : (u : Usage) (volumes : ByName VolumeRow) (new : ByName ℕ) (vsn : List ℕ) (version zone end : ℕ) (v : VolumeRow)
     → map.get volumes vsn ≡ Some v → v.size ≤ last_u64 → NewZone u volumes vsn version zone end → map.get new vsn ≡ Some (as_word end)
     → TipBehind u new vsn end v
 tip_behind u volumes new vsn version zone end v e small z is =
@@ -151,10 +151,10 @@ tip_behind u volumes new vsn version zone end v e small z is =
     let tip : tip_in new vsn v ≡ end = omega (arith, put, within, size, small) in
     record { tip = tip; grows = omega (arith, tip, from, longer); within = omega (arith, tip, within, size) }
 
-module _ (u : Usage) (volumes : Named VolumeRow) (ps : List Piece) (small : EachRow volumes (λ vsn v. v.size ≤ last_u64))
+module _ (u : Usage) (volumes : ByName VolumeRow) (ps : List Piece) (small : EachRow volumes (λ vsn v. v.size ≤ last_u64))
     (bound : TipsFit volumes u.tips) (zones : (p : Piece) → IsAmong p ps → NewPiece u volumes p)
     (apart : (p q : Piece) → IsAmong p ps → IsAmong q ps → p.vsn.0 ≡ q.vsn.0 → p ≡ q) where
-  abbrev new_tips : Named ℕ
+  abbrev new_tips : ByName ℕ
   new_tips = tips_behind u.chunk ps u.tips
 
   piece_behind : (p : Piece) (vsn : List ℕ) (v : VolumeRow) → map.get volumes vsn ≡ Some v → IsAmong p ps → p.vsn.0 ≡ vsn

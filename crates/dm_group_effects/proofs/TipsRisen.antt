@@ -9,7 +9,7 @@ use Rattle.dm_tables.proofs.Any.{any-some}
 use Rattle.dm_tables.proofs.Orders.{numbers}
 use Rattle.dm_durable.specs.declared.daemon.Entry.{Entry}
 use Rattle.dm_durable.specs.declared.group.VolumeRow.{VolumeRow}
-use Rattle.dm_durable.specs.Tables.{Named, Numbered, same_text}
+use Rattle.dm_durable.specs.Tables.{ByName, ByNumber, same_text}
 use Rattle.dm_durable.specs.Volumes.{tip_in, tip_or}
 use Rattle.dm_model.specs.declared.state.OpenRequest.{OpenRequest}
 use Rattle.dm_model.specs.declared.state.Reusing.{Reusing}
@@ -23,12 +23,12 @@ use Rattle.dm_invariant.proofs.Texts.{same_texts}
 use Rattle.dm_effects.proofs.ReuseOpened.{nothing_in_doubt}
 
 -- every tip stays or rises within its volume, and stays where a reuse is open
-pub record TipsRise (volumes : Named VolumeRow) (reuses : Numbered Reusing) (old new : Named ℕ) : Type 0 where
+pub record TipsRise (volumes : ByName VolumeRow) (reuses : ByNumber Reusing) (old new : ByName ℕ) : Type 0 where
   pub grows : (vsn : List ℕ) (v : VolumeRow) → map.get volumes vsn ≡ Some v → tip_in old vsn v ≤ tip_in new vsn v
   pub within : (vsn : List ℕ) (v : VolumeRow) → map.get volumes vsn ≡ Some v → tip_in new vsn v ≤ v.size
   pub stays : (vsn : List ℕ) → is_being_reused reuses vsn ≡ true → map.get new vsn ≡ map.get old vsn
 
-module _ (volumes : Named VolumeRow) (reuses : Numbered Reusing) (old new : Named ℕ) (rise : TipsRise volumes reuses old new) where
+module _ (volumes : ByName VolumeRow) (reuses : ByNumber Reusing) (old new : ByName ℕ) (rise : TipsRise volumes reuses old new) where
   volume_onward : (conf : GroupConf) (now : ℕ) (vsn : List ℕ) (v : VolumeRow) → map.get volumes vsn ≡ Some v
       → VolumeKept conf old now vsn v → VolumeKept conf new now vsn v
   volume_onward conf now vsn v is k =
@@ -67,11 +67,11 @@ module _ (volumes : Named VolumeRow) (reuses : Numbered Reusing) (old new : Name
       subst (λ o. IsReadyAt now hold (tip_or o v) v.held) (sym (rise.stays x.vsn.0 reused)) ready
 
 -- the side with these tips
-abbrev pub with_tips : Named ℕ → Side → Side
+abbrev pub with_tips : ByName ℕ → Side → Side
 with_tips tips s = record s { group = record s.group { tips = tips } }
 
-pub side_tips_risen : (entries : Numbered Entry) (contents : Numbered (List ℕ)) (taken : Numbered (Unit {0})) (requests : Numbered OpenRequest)
-    (g : ℕ) (committed deleted : Numbered (Unit {0})) (s : Side) (new : Named ℕ)
+pub side_tips_risen : (entries : ByNumber Entry) (contents : ByNumber (List ℕ)) (taken : ByNumber (Unit {0})) (requests : ByNumber OpenRequest)
+    (g : ℕ) (committed deleted : ByNumber (Unit {0})) (s : Side) (new : ByName ℕ)
     → TipsRise s.group.tables.volumes s.group.reuses s.group.tips new → s.group.doubt ≡ None
     → SideKept entries contents taken requests g committed deleted s
     → SideKept entries contents taken requests g committed deleted (with_tips new s)

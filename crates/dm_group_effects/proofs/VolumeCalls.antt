@@ -15,7 +15,7 @@ use Rattle.dm_rules.specs.Known.{Known, agrees_with_known, byte_and, known_bytes
 use Rattle.dm_rules.specs.Label.{first_zone, label}
 use Rattle.dm_rules.specs.Zone.{weight, zone_length}
 use Rattle.dm_rules.proofs.Knowledge.{agrees-known_bytes}
-use Rattle.dm_durable.specs.Tables.{Numbered, same_text}
+use Rattle.dm_durable.specs.Tables.{ByNumber, same_text}
 use Rattle.dm_durable.specs.Volumes.{epoch_or}
 use Rattle.dm_model.specs.declared.call.VolumeCall.{VolumeCall}
 use Rattle.dm_model.specs.declared.call.VolumeCall.TheVariants as call
@@ -124,7 +124,7 @@ contains_first : (x : List ℕ) (xs : List (List ℕ)) → Contains (x ∷ xs) x
 contains_first x xs = (0, omega arith, refl)
 
 -- what is left of a chunk that was once live, where its volume has the epoch of the mount
-record ReadIs (contents : Numbered (List ℕ)) (b : ℕ) (c : Chunk) (bytes : List ℕ) : Type 0 where
+record ReadIs (contents : ByNumber (List ℕ)) (b : ℕ) (c : Chunk) (bytes : List ℕ) : Type 0 where
   whole : List ℕ
   content : map.get contents b ≡ Some whole
   within : c.offset + c.len ≤ length whole

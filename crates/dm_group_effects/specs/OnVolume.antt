@@ -1,7 +1,7 @@
 -- Events on a volume: its calls, and those of them that fail. And what is supposed of one that reads.
 use Rattle.std.specs.Prelude.{ℕ, Option, None, Some, List, [], ◌∷◌, ◌++◌}
 use Rattle.std.specs.FinMap as map
-use Rattle.dm_durable.specs.Tables.{Numbered}
+use Rattle.dm_durable.specs.Tables.{ByNumber}
 use Rattle.dm_model.specs.declared.call.Call.{Call}
 use Rattle.dm_model.specs.declared.call.Call.TheVariants as call
 use Rattle.dm_model.specs.declared.call.Event.{Event}
@@ -31,7 +31,7 @@ IsOnVolume event.Stop = ⊥
 -- ---- the part of a bitfile that a read is of
 
 -- that of the chunk which a mount was made for
-abbrev pub parts_of_origin : Numbered (List ℕ) → Origin → List (List ℕ)
+abbrev pub parts_of_origin : ByNumber (List ℕ) → Origin → List (List ℕ)
 parts_of_origin contents (origin.New listed format) = []
 parts_of_origin contents (origin.Piece b index p chunk) = []
 parts_of_origin contents (origin.Chunk b c) = parts_of_content (map.get contents b.0) (c ∷ [])
@@ -39,16 +39,16 @@ parts_of_origin contents (origin.Source job b c) = parts_of_content (map.get con
 parts_of_origin contents (origin.Target job b total c version) = []
 parts_of_origin contents (origin.Reuse next_epoch version reading) = []
 
-abbrev pub parts_under : Numbered (List ℕ) → Option MountState → List (List ℕ)
+abbrev pub parts_under : ByNumber (List ℕ) → Option MountState → List (List ℕ)
 parts_under contents None = []
 parts_under contents (Some x) = parts_of_origin contents x.origin
 
-abbrev pub parts_on_volume : Numbered (List ℕ) → Side → VolumeCall → List (List ℕ)
+abbrev pub parts_on_volume : ByNumber (List ℕ) → Side → VolumeCall → List (List ℕ)
 parts_on_volume contents s (volume_call.WriteZone m place zone) = []
 parts_on_volume contents s (volume_call.ReadChunk m place n bytes) = parts_under contents (map.get s.mounts m)
 parts_on_volume contents s (volume_call.Relabel m epoch version) = []
 
-abbrev pub parts_by_volume : Numbered (List ℕ) → VolumeCall → Option Side → List (List ℕ)
+abbrev pub parts_by_volume : ByNumber (List ℕ) → VolumeCall → Option Side → List (List ℕ)
 parts_by_volume contents c None = []
 parts_by_volume contents c (Some s) = parts_on_volume contents s c
 

@@ -4,7 +4,7 @@ ghost use Rattle.std.specs.List.{AllByRecursion};
 ghost use Rattle.dm_group_effects.specs.OfGroup.{IsOfGroup};
 ghost use Rattle.dm_group_effects.specs.OnVolume.{IsOnVolume, ReadTellsApart, ReadsTellApart};
 ghost use Rattle.dm_invariant.specs.Kept.{InvariantHolds};
-ghost use Rattle.dm_invariant.specs.Opened.{Fits};
+ghost use Rattle.dm_invariant.specs.Opened.{IsAsConfigured};
 ghost use Rattle.dm_invariant.specs.Sound.{Sound};
 ghost use Rattle.dm_model.specs.declared.answer.Answer.{Answer};
 ghost use Rattle.dm_model.specs.declared.call.Event.{Event};
@@ -21,7 +21,7 @@ pub fn group_keeps()
     ensures sound { (j : Joint) (entries : List RunEntry) (k : Joint) → InvariantHolds j → AllByRecursion (λ e. IsOfGroup e.event) entries
         → Run j entries k → Sound k }
     ensures fits { (j : Joint) (entries : List RunEntry) (k : Joint) → InvariantHolds j → AllByRecursion (λ e. IsOfGroup e.event) entries
-        → Run j entries k → Fits k }
+        → Run j entries k → IsAsConfigured k }
 {}
 
 /// What is kept of a state is kept by each legal event on a volume: a zone or a label that is written, a chunk that is read,
@@ -35,5 +35,5 @@ pub fn volume_keeps()
     ensures sound { (j : Joint) (entries : List RunEntry) (k : Joint) → InvariantHolds j → AllByRecursion (λ e. IsOnVolume e.event) entries
         → ReadsTellApart j entries → Run j entries k → Sound k }
     ensures fits { (j : Joint) (entries : List RunEntry) (k : Joint) → InvariantHolds j → AllByRecursion (λ e. IsOnVolume e.event) entries
-        → ReadsTellApart j entries → Run j entries k → Fits k }
+        → ReadsTellApart j entries → Run j entries k → IsAsConfigured k }
 {}

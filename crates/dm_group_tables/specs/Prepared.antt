@@ -8,7 +8,7 @@ use Rattle.dm_durable.specs.declared.group.GroupStep.{GroupStep}
 use Rattle.dm_durable.specs.declared.group.GroupStep.TheVariants as step
 use Rattle.dm_durable.specs.Group.{new_volume}
 use Rattle.dm_durable.specs.GroupConditions.{Joins}
-use Rattle.dm_durable.specs.Tables.{Numbered}
+use Rattle.dm_durable.specs.Tables.{ByNumber}
 use Rattle.dm_group_tables.specs.declared.prepared.Prepared.{Prepared}
 use Rattle.dm_group_tables.specs.declared.prepared.Step.{Step}
 use Rattle.dm_group_tables.specs.declared.prepared.Step.TheVariants.{Volume, Commit, Delete, Move, Free, Reuse}
@@ -27,7 +27,7 @@ abbrev pub record_of : Prepared → GroupRecord
 record_of p = record { time = p.time; step = step_of p.step }
 
 -- after the step the chunks of each bitfile still join from 0 to its length, where they did before
-abbrev pub KeepsWhole : Numbered BitfileRow → GroupStep → Type 0
+abbrev pub KeepsWhole : ByNumber BitfileRow → GroupStep → Type 0
 KeepsWhole bitfiles (step.Volume vsn slot version size) = Unit {0}
 KeepsWhole bitfiles (step.Commit b len chunks) = Joins 0 chunks len
 KeepsWhole bitfiles (step.Delete b) = Unit {0}

@@ -6,14 +6,14 @@ use Rattle.dm_base.specs.declared.identifier.GroupId.{GroupId}
 use Rattle.dm_tables.specs.Rows.{adjust}
 use Rattle.dm_tables.proofs.Adjusted.{get-mapped}
 use Rattle.dm_tables.proofs.Orders.{numbers}
-use Rattle.dm_durable.specs.Tables.{Numbered}
+use Rattle.dm_durable.specs.Tables.{ByNumber}
 use Rattle.dm_model.specs.declared.answer.Answer.{Answer}
 use Rattle.dm_model.specs.declared.answer.Answer.TheVariants as answer
 use Rattle.dm_model.specs.declared.call.Component.{Component}
 use Rattle.dm_model.specs.declared.call.Component.TheVariants as component
 use Rattle.dm_model.specs.declared.call.Event.{Event}
 use Rattle.dm_model.specs.declared.call.Event.TheVariants as event
-use Rattle.dm_model.specs.declared.entry.Entry.{Entry}
+use Rattle.dm_model.specs.declared.entry.HistoryEntry.{HistoryEntry}
 use Rattle.dm_model.specs.declared.guard.Guard.{Guard}
 use Rattle.dm_model.specs.declared.plan.Payload.{Payload}
 use Rattle.dm_model.specs.declared.plan.Prepared.{Prepared}
@@ -27,7 +27,7 @@ use Rattle.dm_history.specs.Alike.{SameGroups}
 use Rattle.dm_history.specs.History.{joint_after, state_seen}
 use Rattle.dm_history.proofs.PartsGo.{keys_stay}
 
-each_keys : (f : SideState → SideState) (gs : List GroupId) (m : Numbered SideState) (q : ℕ) → is_some (fin.get (at_each f gs m) q) ≡ is_some (fin.get m q)
+each_keys : (f : SideState → SideState) (gs : List GroupId) (m : ByNumber SideState) (q : ℕ) → is_some (fin.get (at_each f gs m) q) ≡ is_some (fin.get m q)
 each_keys f [] m q = refl
 each_keys f (g ∷ gs) m q = each_keys f gs (adjust m g.0 f) q ∙ keys_stay numbers m g.0 q f
 
@@ -90,10 +90,10 @@ event_groups j w (event.Look (component.Group g)) q = looked_groups j (fin.get j
 event_groups j w event.Stop q =
     mapped_there side_after_stop (fin.get j.sides q) ∙ sym (ap (λ (o : Option SideState). is_some o) (get-mapped numbers (λ g. side_after_stop) j.sides q))
 
-pub groups_after : (j : Joint) (xs : List (ℕ × Entry)) → SameGroups j (state_seen j xs)
+pub groups_after : (j : Joint) (xs : List (ℕ × HistoryEntry)) → SameGroups j (state_seen j xs)
 groups_after j [] q = refl
 groups_after j (a ∷ xs) q = event_groups j a.1.worker a.1.event q ∙ groups_after (joint_after j a.1) xs q
 
 -- two pasts of one beginning have the same groups
-pub groups_seen : (j : Joint) (xs ys : List (ℕ × Entry)) → SameGroups (state_seen j xs) (state_seen j ys)
+pub groups_seen : (j : Joint) (xs ys : List (ℕ × HistoryEntry)) → SameGroups (state_seen j xs) (state_seen j ys)
 groups_seen j xs ys q = sym (groups_after j xs q) ∙ groups_after j ys q

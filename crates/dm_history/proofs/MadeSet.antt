@@ -15,7 +15,7 @@ use Rattle.dm_tables.proofs.Rows.{get-here}
 use Rattle.dm_durable.specs.declared.group.BitfileRow.{BitfileRow}
 use Rattle.dm_durable.specs.declared.group.VolumeRow.{VolumeRow}
 use Rattle.dm_durable.specs.Group.{chunk_at}
-use Rattle.dm_durable.specs.Tables.{Numbered}
+use Rattle.dm_durable.specs.Tables.{ByNumber}
 use Rattle.dm_durable.specs.Volumes.{LiveChunk, destination_in, first_on, is_freeable_in, reusable_in}
 use Rattle.dm_model.specs.declared.answer.Answer.{Answer}
 use Rattle.dm_model.specs.declared.answer.Answer.TheVariants as answer
@@ -240,7 +240,7 @@ found_set p f None (Some t) keys sets = true_false (sym keys)
 found_set p f (Some s) None keys sets = true_false keys
 found_set p f (Some s) (Some t) keys sets = sets s t refl refl
 
-one_set : (p : Part) (f : SideState → SideState) (g : GroupId) (a b : Numbered SideState) → SameKeys a b
+one_set : (p : Part) (f : SideState → SideState) (g : GroupId) (a b : ByNumber SideState) → SameKeys a b
     → ((s t : SideState) → fin.get a g.0 ≡ Some s → fin.get b g.0 ≡ Some t → PartsAlike p (Some (f s)) (Some (f t)))
     → PartsAlike p (fin.get (adjust a g.0 f) g.0) (fin.get (adjust b g.0 f) g.0)
 one_set p f g a b keys sets =
@@ -252,7 +252,7 @@ group_in_name g Daemon = g
 group_in_name g (Worker w) = g
 group_in_name g (Side h p) = h
 
-copies_set : (k : ℕ) (r : OpenRequest) (len : ℕ) (groups gs : List GroupId) (a b : Numbered SideState) (i : GroupId) → SameKeys a b
+copies_set : (k : ℕ) (r : OpenRequest) (len : ℕ) (groups gs : List GroupId) (a b : ByNumber SideState) (i : GroupId) → SameKeys a b
     → In (copy_name i r.bfid) (map (λ g. copy_name g r.bfid) gs)
     → PartsAlike (part.Copy r.bfid) (fin.get (at_each (side_after_opening (opening.Put k r len groups)) gs a) i.0)
     (fin.get (at_each (side_after_opening (opening.Put k r len groups)) gs b) i.0)
@@ -274,7 +274,7 @@ copy_in c [] x h = absurd h
 copy_in c (g ∷ gs) x (inl same) = (g, same)
 copy_in c (g ∷ gs) x (inr after) = copy_in c gs x after
 
-set_same : (m n : Numbered MountState) (k : ℕ) (v w : MountState) → v ≡ w → fin.get (fin.insert m k v) k ≡ fin.get (fin.insert n k w) k
+set_same : (m n : ByNumber MountState) (k : ℕ) (v w : MountState) → v ≡ w → fin.get (fin.insert m k v) k ≡ fin.get (fin.insert n k w) k
 set_same m n k v w same = get-here numbers m k v ∙ (ap (λ (y : MountState). Some y) same ∙ sym (get-here numbers n k w))
 
 pub opening_sets : (w : ℕ) (o : Opening) (j k : Joint) (x : Name) → SameGroups j k → AllAlike (opening_reads o) j k → Sets x o

@@ -21,7 +21,7 @@ use Rattle.dm_model.specs.declared.call.Event.{Event}
 use Rattle.dm_model.specs.declared.call.Event.TheVariants as event
 use Rattle.dm_model.specs.declared.call.GroupCall.{GroupCall}
 use Rattle.dm_model.specs.declared.call.GroupCall.TheVariants as group_call
-use Rattle.dm_model.specs.declared.entry.Entry.{Entry}
+use Rattle.dm_model.specs.declared.entry.HistoryEntry.{HistoryEntry}
 use Rattle.dm_model.specs.declared.entry.Name.{Name}
 use Rattle.dm_model.specs.declared.entry.Name.TheVariants.{Daemon, Worker, Side}
 use Rattle.dm_model.specs.declared.entry.Part.{Part}
@@ -83,11 +83,11 @@ same_name_self (Side g p) = and_from (nat_eq g.0 g.0) (same_part p p) (eq-eqb g.
 
 -- ---- what an entry is about
 
-pub home_told : (e : Entry) → is_about e (home_of e.event) ≡ true
+pub home_told : (e : HistoryEntry) → is_about e (home_of e.event) ≡ true
 home_told e = or_left _ _ (same_name_self (home_of e.event))
 
 -- a name that one of its names is like
-listed : (e : Entry) (x : Name) → list_any (same_name x) e.names ≡ true → is_about e x ≡ true
+listed : (e : HistoryEntry) (x : Name) → list_any (same_name x) e.names ≡ true → is_about e x ≡ true
 listed e x h = or_right (same_name (home_of e.event) x) _ h
 
 or_more : (b c d : Bool) → (c ≡ true → d ≡ true) → (b || c) ≡ true → (b || d) ≡ true
@@ -161,7 +161,7 @@ ended_listed (event.Landed c) names t h = none_any t h
 ended_listed (event.Look c) names t h = none_any t h
 ended_listed event.Stop names t h = none_any t h
 
-pub ends_told : (e : Entry) (x : Name) → does_end e x ≡ true → is_about e x ≡ true
+pub ends_told : (e : HistoryEntry) (x : Name) → does_end e x ≡ true → is_about e x ≡ true
 ends_told e x h = listed e x (ended_listed e.event e.names (same_name x) h)
 
 -- ---- what is made
@@ -314,7 +314,7 @@ event_made (event.Landed c) a x h = absurd h
 event_made (event.Look c) a x h = absurd h
 event_made event.Stop a x h = absurd h
 
-pub makes_told : (e : Entry) (x : Name) → In x (made_by e.event e.answer) → is_about e (maker_of x) ≡ true
+pub makes_told : (e : HistoryEntry) (x : Name) → In x (made_by e.event e.answer) → is_about e (maker_of x) ≡ true
 makes_told e x h = subst (λ y. is_about e y ≡ true) (sym (event_made e.event e.answer x h).1) (home_told e)
 
 -- ---- fixed names and homes are neither copies nor mounts

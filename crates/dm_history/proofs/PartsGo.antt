@@ -15,7 +15,7 @@ use Rattle.dm_durable.specs.declared.group.GroupRecord.{GroupRecord}
 use Rattle.dm_durable.specs.declared.group.GroupStep.{GroupStep}
 use Rattle.dm_durable.specs.declared.group.GroupStep.TheVariants as step
 use Rattle.dm_durable.specs.declared.group.VolumeRow.{VolumeRow}
-use Rattle.dm_durable.specs.Tables.{Named, Numbered}
+use Rattle.dm_durable.specs.Tables.{ByName, ByNumber}
 use Rattle.dm_model.specs.declared.call.Component.{Component}
 use Rattle.dm_model.specs.declared.call.Component.TheVariants as component
 use Rattle.dm_model.specs.declared.entry.Name.{Name}
@@ -107,7 +107,7 @@ found_shrinks f shrinks None (Some k) h = absurd h
 found_shrinks f shrinks (Some i) None h = absurd h
 found_shrinks f shrinks (Some i) (Some k) h = shrinks i k h
 
-image_goes : (f : Image → Image) → Shrinks f → (m n : Named Image) (w v : List ℕ) → ForgetsOnly (fin.get m v) (fin.get n v)
+image_goes : (f : Image → Image) → Shrinks f → (m n : ByName Image) (w v : List ℕ) → ForgetsOnly (fin.get m v) (fin.get n v)
     → ForgetsOnly (fin.get (adjust m w f) v) (fin.get (adjust n w f) v)
 image_goes f shrinks m n w v h =
     elim (same_or paths w v) [
@@ -150,10 +150,10 @@ without_shrinks i k h = (h.0, λ place b t. t)
 -- ---- sides
 
 -- both have the same groups
-abbrev pub SameKeys : Numbered SideState → Numbered SideState → Type 0
+abbrev pub SameKeys : ByNumber SideState → ByNumber SideState → Type 0
 SameKeys a b = (g : ℕ) → is_some (fin.get a g) ≡ is_some (fin.get b g)
 
-pub keys_go : (f : SideState → SideState) (gs : List GroupId) (a b : Numbered SideState) → SameKeys a b → SameKeys (at_each f gs a) (at_each f gs b)
+pub keys_go : (f : SideState → SideState) (gs : List GroupId) (a b : ByNumber SideState) → SameKeys a b → SameKeys (at_each f gs a) (at_each f gs b)
 keys_go f [] a b keys = keys
 keys_go f (g ∷ gs) a b keys =
     keys_go f gs (adjust a g.0 f) (adjust b g.0 f) (λ q. keys_stay numbers a g.0 q f ∙ (keys q ∙ sym (keys_stay numbers b g.0 q f)))
@@ -172,7 +172,7 @@ found_goes p f (Some s) (Some t) keys h goes = goes s t refl refl h
 pub parts_as : (p : Part) (a b c d : Option SideState) → a ≡ c → b ≡ d → PartsAlike p c d → PartsAlike p a b
 parts_as p a b c d e f h = subst (λ x. PartsAlike p x b) (sym e) (subst (λ y. PartsAlike p c y) (sym f) h)
 
-one_goes : (p : Part) (f : SideState → SideState) (h g : GroupId) (a b : Numbered SideState) → SameKeys a b → PartsAlike p (fin.get a h.0) (fin.get b h.0)
+one_goes : (p : Part) (f : SideState → SideState) (h g : GroupId) (a b : ByNumber SideState) → SameKeys a b → PartsAlike p (fin.get a h.0) (fin.get b h.0)
     → (h.0 ≡ g.0 → (s t : SideState) → fin.get a h.0 ≡ Some s → fin.get b h.0 ≡ Some t → PartsAlike p (Some s) (Some t)
     → PartsAlike p (Some (f s)) (Some (f t)))
     → PartsAlike p (fin.get (adjust a g.0 f) h.0) (fin.get (adjust b g.0 f) h.0)
@@ -184,7 +184,7 @@ one_goes p f h g a b keys same goes =
       | inr differ ↦ parts_as p _ _ (fin.get a h.0) (fin.get b h.0) (adjusted-beside numbers a g.0 f h.0 differ) (adjusted-beside numbers b g.0 f h.0 differ) same
     ]
 
-pub each_goes : (p : Part) (f : SideState → SideState) (h : GroupId) (gs : List GroupId) (a b : Numbered SideState) → SameKeys a b
+pub each_goes : (p : Part) (f : SideState → SideState) (h : GroupId) (gs : List GroupId) (a b : ByNumber SideState) → SameKeys a b
     → PartsAlike p (fin.get a h.0) (fin.get b h.0)
     → ((s t : SideState) → PartsAlike p (Some s) (Some t) → PartsAlike p (Some (f s)) (Some (f t)))
     → PartsAlike p (fin.get (at_each f gs a) h.0) (fin.get (at_each f gs b) h.0)
@@ -224,14 +224,14 @@ faithful_same : (s t : SideState) → SameLibrary s t → s.faithful ≡ t.faith
 faithful_same s t h = ap faithful_in h
 
 -- the library servers of a group, found in both states
-pub libraries_at : (g h : GroupId) (a b : Numbered SideState) (s t : SideState) → h.0 ≡ g.0 → fin.get a h.0 ≡ Some s → fin.get b h.0 ≡ Some t
+pub libraries_at : (g h : GroupId) (a b : ByNumber SideState) (s t : SideState) → h.0 ≡ g.0 → fin.get a h.0 ≡ Some s → fin.get b h.0 ≡ Some t
     → library_of (fin.get a g.0) ≡ library_of (fin.get b g.0) → SameLibrary s t
 libraries_at g h a b s t same is_s is_t alike =
     let at_s : fin.get a g.0 ≡ Some s = subst (λ n. fin.get a n ≡ Some s) same is_s in
     let at_t : fin.get b g.0 ≡ Some t = subst (λ n. fin.get b n ≡ Some t) same is_t in
     sym (ap library_of at_s) ∙ (alike ∙ ap library_of at_t)
 
-mounts_at : (g h : GroupId) (m : ℕ) (a b : Numbered SideState) (s t : SideState) → h.0 ≡ g.0 → fin.get a h.0 ≡ Some s → fin.get b h.0 ≡ Some t
+mounts_at : (g h : GroupId) (m : ℕ) (a b : ByNumber SideState) (s t : SideState) → h.0 ≡ g.0 → fin.get a h.0 ≡ Some s → fin.get b h.0 ≡ Some t
     → mount_of m (fin.get a g.0) ≡ mount_of m (fin.get b g.0) → fin.get s.mounts m ≡ fin.get t.mounts m
 mounts_at g h m a b s t same is_s is_t alike =
     let at_s : fin.get a g.0 ≡ Some s = subst (λ n. fin.get a n ≡ Some s) same is_s in
@@ -257,7 +257,7 @@ reservation_goes g n b (part.Volume v) s t h = h
 reservation_goes g n b (part.Copy c) s t h = adjust_goes numbers s.copies t.copies b.0 c.0 _ h
 reservation_goes g n b (part.Mount m) s t h = h
 
-unmounted_goes : (m : ℕ) (c : Bfid) (made : Origin) (a b : Numbered CopyState) → fin.get a c.0 ≡ fin.get b c.0
+unmounted_goes : (m : ℕ) (c : Bfid) (made : Origin) (a b : ByNumber CopyState) → fin.get a c.0 ≡ fin.get b c.0
     → fin.get (copies_unmounted m made a) c.0 ≡ fin.get (copies_unmounted m made b) c.0
 unmounted_goes m c (origin.New listed format) x y h = h
 unmounted_goes m c (origin.Piece b index piece chunk) x y h = adjust_goes numbers x y b.0 c.0 (reservation_by (without_piece_mount m)) h
@@ -266,7 +266,7 @@ unmounted_goes m c (origin.Source job b chunk) x y h = h
 unmounted_goes m c (origin.Target job b total chunk version) x y h = h
 unmounted_goes m c (origin.Reuse next_epoch version reading) x y h = h
 
-unmounted_if_goes : (m : ℕ) (c : Bfid) (o : Option MountState) (a b : Numbered CopyState) → fin.get a c.0 ≡ fin.get b c.0
+unmounted_if_goes : (m : ℕ) (c : Bfid) (o : Option MountState) (a b : ByNumber CopyState) → fin.get a c.0 ≡ fin.get b c.0
     → fin.get (copies_unmounted_if m o a) c.0 ≡ fin.get (copies_unmounted_if m o b) c.0
 unmounted_if_goes m c None a b h = h
 unmounted_if_goes m c (Some x) a b h = unmounted_goes m c x.origin a b h
@@ -308,7 +308,7 @@ side_ending_goes w (ending.Move g job source target) j k h p keys reads same =
     one_goes p (side_after_ending (ending.Move g job source target)) h g j.sides k.sides keys same
     (λ here s t is_s is_t alike. move_goes g job source target p s t alike)
 
-worker_ending_goes : (w : ℕ) (e : Ending) (a b : Numbered WorkerState) (v : ℕ) → fin.get a v ≡ fin.get b v
+worker_ending_goes : (w : ℕ) (e : Ending) (a b : ByNumber WorkerState) (v : ℕ) → fin.get a v ≡ fin.get b v
     → fin.get (workers_after_ending w e a) v ≡ fin.get (workers_after_ending w e b) v
 worker_ending_goes w ending.Nothing a b v h = h
 worker_ending_goes w (ending.Put k c groups) a b v h = h
@@ -368,12 +368,12 @@ doubting_goes q j k (Side g p) keys h = side_doubting_goes q j k g p keys h
 
 -- ---- payloads
 
-forgotten_if_goes : (b : Bool) (m n : Named Image) (w v : List ℕ) → ForgetsOnly (fin.get m v) (fin.get n v)
+forgotten_if_goes : (b : Bool) (m n : ByName Image) (w v : List ℕ) → ForgetsOnly (fin.get m v) (fin.get n v)
     → ForgetsOnly (fin.get (cond b (adjust m w without_known) m) v) (fin.get (cond b (adjust n w without_known) n) v)
 forgotten_if_goes true m n w v h = image_goes without_known without_shrinks m n w v h
 forgotten_if_goes false m n w v h = h
 
-relabelled_goes : (faithful : List ℕ) (version : ℕ) (w : List ℕ) (o : Option VolumeRow) (m n : Named Image) (v : List ℕ)
+relabelled_goes : (faithful : List ℕ) (version : ℕ) (w : List ℕ) (o : Option VolumeRow) (m n : ByName Image) (v : List ℕ)
     → ForgetsOnly (fin.get m v) (fin.get n v)
     → ForgetsOnly (fin.get (images_relabelled faithful version w o m) v) (fin.get (images_relabelled faithful version w o n) v)
 relabelled_goes faithful version w None m n v h = h
@@ -443,7 +443,7 @@ source_goes m u (part.Volume v) s t h = h
 source_goes m u (part.Copy c) s t h = h
 source_goes m u (part.Mount n) s t h = adjust_goes numbers s.mounts t.mounts m n u h
 
-side_mark_goes : (x : Mark) (a b : Numbered SideState) (h : GroupId) (p : Part) → SameKeys a b → PartsAlike p (fin.get a h.0) (fin.get b h.0)
+side_mark_goes : (x : Mark) (a b : ByNumber SideState) (h : GroupId) (p : Part) → SameKeys a b → PartsAlike p (fin.get a h.0) (fin.get b h.0)
     → PartsAlike p (fin.get (at_each (side_after_mark x) (groups_of_mark x) a) h.0) (fin.get (at_each (side_after_mark x) (groups_of_mark x) b) h.0)
 side_mark_goes mark.Nothing a b h p keys same = same
 side_mark_goes (mark.Zone g vsn place zone c index epoch) a b h p keys same =
@@ -460,7 +460,7 @@ side_mark_goes (mark.Source g m bytes) a b h p keys same =
     one_goes p (side_after_mark (mark.Source g m bytes)) h g a b keys same (λ here s t is_s is_t alike. source_goes m _ p s t alike)
 side_mark_goes (mark.Deleted g c) a b h p keys same = same
 
-worker_mark_goes : (w : ℕ) (x : Mark) (a b : Numbered WorkerState) (v : ℕ) → fin.get a v ≡ fin.get b v
+worker_mark_goes : (w : ℕ) (x : Mark) (a b : ByNumber WorkerState) (v : ℕ) → fin.get a v ≡ fin.get b v
     → fin.get (workers_after_mark w x a) v ≡ fin.get (workers_after_mark w x b) v
 worker_mark_goes w mark.Nothing a b v h = h
 worker_mark_goes w (mark.Zone g vsn place zone c index epoch) a b v h = h
@@ -475,7 +475,7 @@ mark_goes w y j k Daemon keys h = h
 mark_goes w y j k (Worker v) keys h = worker_mark_goes w y j.workers k.workers v h
 mark_goes w y j k (Side g p) keys h = side_mark_goes y j.sides k.sides g p keys h
 
-side_failed_goes : (x : Mark) (a b : Numbered SideState) (h : GroupId) (p : Part) → SameKeys a b → PartsAlike p (fin.get a h.0) (fin.get b h.0)
+side_failed_goes : (x : Mark) (a b : ByNumber SideState) (h : GroupId) (p : Part) → SameKeys a b → PartsAlike p (fin.get a h.0) (fin.get b h.0)
     → PartsAlike p (fin.get (at_each (side_after_failed_mark x) (groups_of_mark x) a) h.0) (fin.get (at_each (side_after_failed_mark x) (groups_of_mark x) b) h.0)
 side_failed_goes mark.Nothing a b h p keys same = same
 side_failed_goes (mark.Zone g vsn place zone c index epoch) a b h p keys same =
@@ -529,7 +529,7 @@ reservation_opened_goes g n r (part.Volume v) s t h = h
 reservation_opened_goes g n r (part.Copy c) s t h = adjust_goes numbers s.copies t.copies r.bfid.0 c.0 _ h
 reservation_opened_goes g n r (part.Mount m) s t h = h
 
-mounted_goes : (m : ℕ) (c : Bfid) (made : Origin) (a b : Numbered CopyState) → fin.get a c.0 ≡ fin.get b c.0
+mounted_goes : (m : ℕ) (c : Bfid) (made : Origin) (a b : ByNumber CopyState) → fin.get a c.0 ≡ fin.get b c.0
     → fin.get (copies_mounted m made a) c.0 ≡ fin.get (copies_mounted m made b) c.0
 mounted_goes m c (origin.New listed format) x y h = h
 mounted_goes m c (origin.Piece b index piece chunk) x y h = adjust_goes numbers x y b.0 c.0 (reservation_by (with_piece_mount m index)) h
@@ -598,7 +598,7 @@ side_opening_goes w (opening.Reuse g m epoch x reading) j k h p keys reads same 
     (λ here s t is_s is_t alike.
     reuse_opened_goes g m epoch x reading p s t (libraries_at g h j.sides k.sides s t here is_s is_t (reads (Side g part.Itself) (inl refl))) alike)
 
-recall_opened_goes : (w k : ℕ) (recall : Recall) (a b : Numbered WorkerState) (v : ℕ) → fin.get a v ≡ fin.get b v
+recall_opened_goes : (w k : ℕ) (recall : Recall) (a b : ByNumber WorkerState) (v : ℕ) → fin.get a v ≡ fin.get b v
     → fin.get (fin.insert a w (with_recall k recall (worker_or (fin.get a w)))) v ≡ fin.get (fin.insert b w (with_recall k recall (worker_or (fin.get b w)))) v
 recall_opened_goes w k recall a b v h =
     elim (same_or numbers w v) [
@@ -608,7 +608,7 @@ recall_opened_goes w k recall a b v h =
       | inr differ ↦ get-beside numbers a w _ v differ ∙ (h ∙ sym (get-beside numbers b w _ v differ))
     ]
 
-worker_opening_goes : (w : ℕ) (o : Opening) (a b : Numbered WorkerState) (v : ℕ) → fin.get a v ≡ fin.get b v
+worker_opening_goes : (w : ℕ) (o : Opening) (a b : ByNumber WorkerState) (v : ℕ) → fin.get a v ≡ fin.get b v
     → fin.get (workers_after_opening w o a) v ≡ fin.get (workers_after_opening w o b) v
 worker_opening_goes w opening.Nothing a b v h = h
 worker_opening_goes w (opening.Put k r len groups) a b v h = h

@@ -14,7 +14,7 @@ use Rattle.dm_durable.specs.declared.group.GroupRecord.{GroupRecord}
 use Rattle.dm_durable.specs.declared.group.GroupStep.{GroupStep}
 use Rattle.dm_durable.specs.declared.group.GroupStep.TheVariants as step
 use Rattle.dm_durable.specs.declared.group.VolumeRow.{VolumeRow}
-use Rattle.dm_durable.specs.Tables.{Named, Numbered}
+use Rattle.dm_durable.specs.Tables.{ByName, ByNumber}
 use Rattle.dm_model.specs.declared.call.Component.{Component}
 use Rattle.dm_model.specs.declared.call.Component.TheVariants as component
 use Rattle.dm_model.specs.declared.entry.Name.{Name}
@@ -91,7 +91,7 @@ found_stays : (p : Part) (f : SideState → SideState) (o : Option SideState) �
 found_stays p f None keeps = part_self p None
 found_stays p f (Some s) keeps = keeps s refl
 
-one_stays : (p : Part) (f : SideState → SideState) (h g : GroupId) (sides : Numbered SideState)
+one_stays : (p : Part) (f : SideState → SideState) (h g : GroupId) (sides : ByNumber SideState)
     → (h.0 ≡ g.0 → (s : SideState) → fin.get sides h.0 ≡ Some s → PartsAlike p (Some s) (Some (f s)))
     → PartsAlike p (fin.get sides h.0) (fin.get (adjust sides g.0 f) h.0)
 one_stays p f h g sides keeps =
@@ -103,7 +103,7 @@ one_stays p f h g sides keeps =
           (part_self p (fin.get sides h.0))
     ]
 
-each_stays : (p : Part) (f : SideState → SideState) (h : GroupId) (gs : List GroupId) (sides : Numbered SideState)
+each_stays : (p : Part) (f : SideState → SideState) (h : GroupId) (gs : List GroupId) (sides : ByNumber SideState)
     → ((g : GroupId) → In g gs → h.0 ≡ g.0 → (s : SideState) → PartsAlike p (Some s) (Some (f s)))
     → PartsAlike p (fin.get sides h.0) (fin.get (at_each f gs sides) h.0)
 each_stays p f h [] sides keeps = part_self p (fin.get sides h.0)
@@ -130,22 +130,22 @@ mount_apart n m differ is = differ (ap (λ k. part.Mount k) is)
 volume_apart : (v w : Vsn) → (part.Volume v ≡ part.Volume w → ⊥) → v.0 ≢ w.0
 volume_apart v w differ is = let V : List ℕ → Vsn = λ t. record { 0 = t } in differ (ap (λ t. part.Volume (V t)) is)
 
-copy_adjusted : (copies : Numbered CopyState) (c b : Bfid) (f : CopyState → CopyState) → (part.Copy c ≡ part.Copy b → ⊥)
+copy_adjusted : (copies : ByNumber CopyState) (c b : Bfid) (f : CopyState → CopyState) → (part.Copy c ≡ part.Copy b → ⊥)
     → fin.get copies c.0 ≡ fin.get (adjust copies b.0 f) c.0
 copy_adjusted copies c b f differ = sym (adjusted-beside numbers copies b.0 f c.0 (copy_apart c b differ))
 
-mount_adjusted : (mounts : Numbered MountState) (n m : ℕ) (f : MountState → MountState) → (part.Mount n ≡ part.Mount m → ⊥)
+mount_adjusted : (mounts : ByNumber MountState) (n m : ℕ) (f : MountState → MountState) → (part.Mount n ≡ part.Mount m → ⊥)
     → fin.get mounts n ≡ fin.get (adjust mounts m f) n
 mount_adjusted mounts n m f differ = sym (adjusted-beside numbers mounts m f n (mount_apart n m differ))
 
-mount_removed : (mounts : Numbered MountState) (n m : ℕ) → (part.Mount n ≡ part.Mount m → ⊥) → fin.get mounts n ≡ fin.get (fin.remove mounts m) n
+mount_removed : (mounts : ByNumber MountState) (n m : ℕ) → (part.Mount n ≡ part.Mount m → ⊥) → fin.get mounts n ≡ fin.get (fin.remove mounts m) n
 mount_removed mounts n m differ = sym (removed-beside numbers mounts m n (mount_apart n m differ))
 
-mount_inserted : (mounts : Numbered MountState) (n m : ℕ) (x : MountState) → (part.Mount n ≡ part.Mount m → ⊥)
+mount_inserted : (mounts : ByNumber MountState) (n m : ℕ) (x : MountState) → (part.Mount n ≡ part.Mount m → ⊥)
     → fin.get mounts n ≡ fin.get (fin.insert mounts m x) n
 mount_inserted mounts n m x differ = sym (get-beside numbers mounts m x n (mount_apart n m differ))
 
-image_adjusted : (images : Named Image) (v w : Vsn) (f : Image → Image) → (part.Volume v ≡ part.Volume w → ⊥)
+image_adjusted : (images : ByName Image) (v w : Vsn) (f : Image → Image) → (part.Volume v ≡ part.Volume w → ⊥)
     → ForgetsOnly (fin.get images v.0) (fin.get (adjust images w.0 f) v.0)
 image_adjusted images v w f differ =
     subst (λ o. ForgetsOnly (fin.get images v.0) o) (sym (adjusted-beside paths images w.0 f v.0 (volume_apart v w differ)))
@@ -199,7 +199,7 @@ reservation_part g n b (part.Volume v) s itself differ = less_self (fin.get s.im
 reservation_part g n b (part.Copy c) s itself differ = copy_adjusted s.copies c b _ differ
 reservation_part g n b (part.Mount m) s itself differ = refl
 
-unmounted_origin : (w : ℕ) (h g : GroupId) (m : ℕ) (c : Bfid) (made : Origin) (copies : Numbered CopyState) → h.0 ≡ g.0
+unmounted_origin : (w : ℕ) (h g : GroupId) (m : ℕ) (c : Bfid) (made : Origin) (copies : ByNumber CopyState) → h.0 ≡ g.0
     → (Side h (part.Copy c) ≡ owner_of_origin w g made → ⊥) → fin.get copies c.0 ≡ fin.get (copies_unmounted m made copies) c.0
 unmounted_origin w h g m c (origin.New listed format) copies same differ = refl
 unmounted_origin w h g m c (origin.Piece b index piece chunk) copies same differ =
@@ -209,7 +209,7 @@ unmounted_origin w h g m c (origin.Source job b chunk) copies same differ = refl
 unmounted_origin w h g m c (origin.Target job b total chunk version) copies same differ = refl
 unmounted_origin w h g m c (origin.Reuse next_epoch version reading) copies same differ = refl
 
-unmounted_copy : (w : ℕ) (h g : GroupId) (m : ℕ) (c : Bfid) (o : Option MountState) (copies : Numbered CopyState) → h.0 ≡ g.0
+unmounted_copy : (w : ℕ) (h g : GroupId) (m : ℕ) (c : Bfid) (o : Option MountState) (copies : ByNumber CopyState) → h.0 ≡ g.0
     → (Side h (part.Copy c) ≡ owner_of w g o → ⊥) → fin.get copies c.0 ≡ fin.get (copies_unmounted_if m o copies) c.0
 unmounted_copy w h g m c None copies same differ = refl
 unmounted_copy w h g m c (Some x) copies same differ = unmounted_origin w h g m c x.origin copies same differ
@@ -315,7 +315,7 @@ forgotten_image : (o : Option Image) → ForgetsOnly o (option_map without_known
 forgotten_image None = tt
 forgotten_image (Some i) = (refl, λ place b h. each-empty nat_cmp (λ k x. fin.get i.known k ≡ Some x) place b h)
 
-image_forgotten : (images : Named Image) (vsn v : List ℕ) → ForgetsOnly (fin.get images v) (fin.get (adjust images vsn without_known) v)
+image_forgotten : (images : ByName Image) (vsn v : List ℕ) → ForgetsOnly (fin.get images v) (fin.get (adjust images vsn without_known) v)
 image_forgotten images vsn v =
     elim (same_or paths vsn v) [
       | inl here ↦ subst (λ k. ForgetsOnly (fin.get images v) (fin.get (adjust images k without_known) v)) here
@@ -324,11 +324,11 @@ image_forgotten images vsn v =
           (less_self (fin.get images v))
     ]
 
-image_forgotten_if : (b : Bool) (images : Named Image) (vsn v : List ℕ) → ForgetsOnly (fin.get images v) (fin.get (cond b (adjust images vsn without_known) images) v)
+image_forgotten_if : (b : Bool) (images : ByName Image) (vsn v : List ℕ) → ForgetsOnly (fin.get images v) (fin.get (cond b (adjust images vsn without_known) images) v)
 image_forgotten_if true images vsn v = image_forgotten images vsn v
 image_forgotten_if false images vsn v = less_self (fin.get images v)
 
-image_relabelled : (faithful : List ℕ) (version : ℕ) (vsn : List ℕ) (o : Option VolumeRow) (images : Named Image) (v : List ℕ)
+image_relabelled : (faithful : List ℕ) (version : ℕ) (vsn : List ℕ) (o : Option VolumeRow) (images : ByName Image) (v : List ℕ)
     → ForgetsOnly (fin.get images v) (fin.get (images_relabelled faithful version vsn o images) v)
 image_relabelled faithful version vsn None images v = less_self (fin.get images v)
 image_relabelled faithful version vsn (Some row) images v = image_forgotten_if _ images vsn v
@@ -394,7 +394,7 @@ source_part m t (part.Volume v) s differ = less_self (fin.get s.images v.0)
 source_part m t (part.Copy c) s differ = refl
 source_part m t (part.Mount n) s differ = mount_adjusted s.mounts n m t differ
 
-side_marked : (w : ℕ) (x : Mark) (sides : Numbered SideState) (h : GroupId) (p : Part) → (In (Side h p) (mark_names w x) → ⊥)
+side_marked : (w : ℕ) (x : Mark) (sides : ByNumber SideState) (h : GroupId) (p : Part) → (In (Side h p) (mark_names w x) → ⊥)
     → PartsAlike p (fin.get sides h.0) (fin.get (at_each (side_after_mark x) (groups_of_mark x) sides) h.0)
 side_marked w mark.Nothing sides h p away = part_self p (fin.get sides h.0)
 side_marked w (mark.Zone g vsn place zone b index epoch) sides h p away =
@@ -415,7 +415,7 @@ side_marked w (mark.Source g m bytes) sides h p away =
     (λ same s there. source_part m _ p s (apart_at h g p (part.Mount m) same (λ is. away (inl is))))
 side_marked w (mark.Deleted g b) sides h p away = part_self p (fin.get sides h.0)
 
-worker_marked : (w : ℕ) (x : Mark) (workers : Numbered WorkerState) (v : ℕ) → (In (Worker v) (mark_names w x) → ⊥)
+worker_marked : (w : ℕ) (x : Mark) (workers : ByNumber WorkerState) (v : ℕ) → (In (Worker v) (mark_names w x) → ⊥)
     → fin.get workers v ≡ fin.get (workers_after_mark w x workers) v
 worker_marked w mark.Nothing workers v away = refl
 worker_marked w (mark.Zone g vsn place zone b index epoch) workers v away = refl
@@ -431,7 +431,7 @@ mark_stays w y j Daemon away = refl
 mark_stays w y j (Worker v) away = worker_marked w y j.workers v away
 mark_stays w y j (Side h p) away = side_marked w y j.sides h p away
 
-side_failed : (w : ℕ) (x : Mark) (sides : Numbered SideState) (h : GroupId) (p : Part) → (In (Side h p) (mark_names w x) → ⊥)
+side_failed : (w : ℕ) (x : Mark) (sides : ByNumber SideState) (h : GroupId) (p : Part) → (In (Side h p) (mark_names w x) → ⊥)
     → PartsAlike p (fin.get sides h.0) (fin.get (at_each (side_after_failed_mark x) (groups_of_mark x) sides) h.0)
 side_failed w mark.Nothing sides h p away = part_self p (fin.get sides h.0)
 side_failed w (mark.Zone g vsn place zone b index epoch) sides h p away =
@@ -477,7 +477,7 @@ daemon_opened w (opening.Mount g m vsn epoch made) j away = refl
 daemon_opened w (opening.Move g job x source_epoch target_epoch) j away = refl
 daemon_opened w (opening.Reuse g m epoch x reading) j away = refl
 
-worker_opened : (w : ℕ) (o : Opening) (workers : Numbered WorkerState) (v : ℕ) → (In (Worker v) (opening_names w o) → ⊥)
+worker_opened : (w : ℕ) (o : Opening) (workers : ByNumber WorkerState) (v : ℕ) → (In (Worker v) (opening_names w o) → ⊥)
     → fin.get workers v ≡ fin.get (workers_after_opening w o workers) v
 worker_opened w opening.Nothing workers v away = refl
 worker_opened w (opening.Put k r len groups) workers v away = refl
@@ -502,7 +502,7 @@ reservation_opened g n r (part.Volume v) s itself differ = less_self (fin.get s.
 reservation_opened g n r (part.Copy c) s itself differ = copy_adjusted s.copies c r.bfid _ differ
 reservation_opened g n r (part.Mount m) s itself differ = refl
 
-mounted_origin : (w : ℕ) (h g : GroupId) (m : ℕ) (c : Bfid) (made : Origin) (copies : Numbered CopyState) → h.0 ≡ g.0
+mounted_origin : (w : ℕ) (h g : GroupId) (m : ℕ) (c : Bfid) (made : Origin) (copies : ByNumber CopyState) → h.0 ≡ g.0
     → (Side h (part.Copy c) ≡ owner_of_origin w g made → ⊥) → fin.get copies c.0 ≡ fin.get (copies_mounted m made copies) c.0
 mounted_origin w h g m c (origin.New listed format) copies same differ = refl
 mounted_origin w h g m c (origin.Piece b index piece chunk) copies same differ =
@@ -536,7 +536,7 @@ reuse_opened g m epoch x reading (part.Volume v) s itself differ = less_self (fi
 reuse_opened g m epoch x reading (part.Copy c) s itself differ = refl
 reuse_opened g m epoch x reading (part.Mount n) s itself differ = mount_inserted s.mounts n m _ differ
 
-side_opened : (w : ℕ) (o : Opening) (sides : Numbered SideState) (h : GroupId) (p : Part) → (In (Side h p) (opening_names w o) → ⊥)
+side_opened : (w : ℕ) (o : Opening) (sides : ByNumber SideState) (h : GroupId) (p : Part) → (In (Side h p) (opening_names w o) → ⊥)
     → PartsAlike p (fin.get sides h.0) (fin.get (at_each (side_after_opening o) (groups_of_opening o) sides) h.0)
 side_opened w opening.Nothing sides h p away = part_self p (fin.get sides h.0)
 side_opened w (opening.Put k r len groups) sides h p away =

@@ -5,7 +5,7 @@
 -- of the past, and one name's entries may follow each other in any way.
 use Rattle.std.specs.Prelude.{◌≡◌, ℕ, ◌≤◌, ◌⊎◌, Bool, true, List, [], ◌∷◌, length}
 use Rattle.std.specs.List.{list_any}
-use Rattle.dm_model.specs.declared.entry.Entry.{Entry}
+use Rattle.dm_model.specs.declared.entry.HistoryEntry.{HistoryEntry}
 use Rattle.dm_model.specs.declared.entry.Name.{Name}
 use Rattle.dm_model.specs.declared.state.Joint.{Joint}
 use Rattle.dm_model.specs.Names.{ended_by, run_entry_of, fixed_names, home_of, is_about, made_by, maker_of, names_of, same_name}
@@ -21,35 +21,35 @@ pub record Begun : Type 0 where
   pub few : length (fixed_names opened workers) ≤ 32768
 
 -- the state after an entry, and after the entries of a past, in their order
-abbrev pub joint_after : Joint → Entry → Joint
+abbrev pub joint_after : Joint → HistoryEntry → Joint
 joint_after j e = state_after j (step j e.worker e.event)
 
-abbrev pub state_seen : Joint → List (ℕ × Entry) → Joint
+abbrev pub state_seen : Joint → List (ℕ × HistoryEntry) → Joint
 state_seen j [] = j
 state_seen j (a ∷ xs) = state_seen (joint_after j a.1) xs
 
 -- the entries of a past as those of a run
-abbrev pub run_of : List (ℕ × Entry) → List RunEntry
+abbrev pub run_of : List (ℕ × HistoryEntry) → List RunEntry
 run_of [] = []
 run_of (a ∷ xs) = run_entry_of a.1 ∷ run_of xs
 
 -- the event is legal in the state, the answer is the machine's, and the entry names all that the event is about there
-pub record Taken (j : Joint) (e : Entry) : Type 0 where
+pub record Taken (j : Joint) (e : HistoryEntry) : Type 0 where
   pub taken : step j e.worker e.event ≡ Stepped (joint_after j e) e.answer
   pub named : (x : Name) → In x (names_of j e.worker e.event) → is_about e x ≡ true
   -- with a stop a history is over, and the next start begins another
   pub goes : GoesOn e.event
 
 -- some entry made the name
-abbrev pub MadeIn : Name → List (ℕ × Entry) → Type 0
-MadeIn x xs = (a : ℕ × Entry) × In a xs × In x (made_by a.1.event a.1.answer)
+abbrev pub MadeIn : Name → List (ℕ × HistoryEntry) → Type 0
+MadeIn x xs = (a : ℕ × HistoryEntry) × In a xs × In x (made_by a.1.event a.1.answer)
 
 -- the name is fixed, or an entry of the past made it
-abbrev pub Rooted : Begun → Name → List (ℕ × Entry) → Type 0
+abbrev pub Rooted : Begun → Name → List (ℕ × HistoryEntry) → Type 0
 Rooted begun x xs = In x (fixed_names begun.opened begun.workers) ⊎ MadeIn x xs
 
 -- the entry may come after the past xs
-pub record Needed (begun : Begun) (xs : List (ℕ × Entry)) (e : Entry) : Type 0 where
+pub record Needed (begun : Begun) (xs : List (ℕ × HistoryEntry)) (e : HistoryEntry) : Type 0 where
   pub taken : Taken (state_seen begun.opened xs) e
   -- each name that it is about is fixed, or was made
   pub rooted : (x : Name) → is_about e x ≡ true → Rooted begun x xs
@@ -57,10 +57,10 @@ pub record Needed (begun : Begun) (xs : List (ℕ × Entry)) (e : Entry) : Type 
   pub fresh : (x : Name) → In x (made_by e.event e.answer) → MadeIn x xs → ⊥
 
 -- whether it is the name's last entry
-abbrev pub does_end : Entry → Name → Bool
+abbrev pub does_end : HistoryEntry → Name → Bool
 does_end e x = list_any (same_name x) (ended_by e.event e.names)
 
-abbrev pub history : Meaning Begun Name Entry
+abbrev pub history : Meaning Begun Name HistoryEntry
 history = record {
   same = same_name;
   fixed = λ begun. fixed_names begun.opened begun.workers;
@@ -76,6 +76,6 @@ history = record {
 -- between two legal pasts, what an entry needs stays true in the larger, where the chains of its own names are the same
 abbrev pub NeedsGrow : Type 0
 NeedsGrow =
-    (begun : Begun) (xs ys : List (ℕ × Entry)) (e : Entry) → IsPart history xs ys → Legal history begun xs → Legal history begun ys
+    (begun : Begun) (xs ys : List (ℕ × HistoryEntry)) (e : HistoryEntry) → IsPart history xs ys → Legal history begun xs → Legal history begun ys
     → ((x : Name) → is_about e x ≡ true → chain history x xs ≡ chain history x ys)
     → (Opened begun.opened → Needed begun xs e) → Opened begun.opened → Needed begun ys e

@@ -3,7 +3,7 @@ ghost use Rattle.std.specs.Prelude.{◌≡◌, ℕ, List, ◌∷◌, ◌++◌};
 ghost use Rattle.std.specs.List.{AllByRecursion};
 ghost use Rattle.dm_model.specs.declared.answer.Answer.{Answer};
 ghost use Rattle.dm_model.specs.declared.call.Event.{Event};
-ghost use Rattle.dm_model.specs.declared.entry.Entry.{Entry};
+ghost use Rattle.dm_model.specs.declared.entry.HistoryEntry.{HistoryEntry};
 ghost use Rattle.dm_model.specs.declared.entry.Name.{Name};
 ghost use Rattle.dm_model.specs.declared.state.Joint.{Joint};
 ghost use Rattle.dm_model.specs.Hashed.{NoCollision};
@@ -53,9 +53,9 @@ pub fn names_decided()
 /// without a stop, to the state after it (docs/DEFINITIONS.md, "The machine's history"). So every law of runs holds of what any
 /// pass has seen.
 pub fn past_is_run()
-    ensures run { (begun : Begun) (xs : List (ℕ × Entry)) → Opened begun.opened → Rises 0 xs → Legal history begun xs
+    ensures run { (begun : Begun) (xs : List (ℕ × HistoryEntry)) → Opened begun.opened → Rises 0 xs → Legal history begun xs
         → Run begun.opened (run_of xs) (state_seen begun.opened xs) }
-    ensures goes { (begun : Begun) (xs : List (ℕ × Entry)) → Opened begun.opened → Rises 0 xs → Legal history begun xs
+    ensures goes { (begun : Begun) (xs : List (ℕ × HistoryEntry)) → Opened begun.opened → Rises 0 xs → Legal history begun xs
         → AllByRecursion (λ e. GoesOn e.event) (run_of xs) }
 {}
 
@@ -63,16 +63,16 @@ pub fn past_is_run()
 /// and the bitfile of an open recall is in each group that was asked; and what users see is what they see after the plain steps of the past. It is supposed that no two different byte lists of one length have one SHA-256, of those that
 /// are hashed in the past and the parts of bitfiles that stand in chunks as it begins (docs/DEFINITIONS.md, "The machine's history").
 pub fn past_kept()
-    ensures along { (begun : Begun) (xs : List (ℕ × Entry)) → Opened begun.opened → Rises 0 xs → Legal history begun xs
+    ensures along { (begun : Begun) (xs : List (ℕ × HistoryEntry)) → Opened begun.opened → Rises 0 xs → Legal history begun xs
         → NoCollision begun.opened (run_of xs) → KeptAlong begun.opened (run_of xs) }
-    ensures kept { (begun : Begun) (xs : List (ℕ × Entry)) → Opened begun.opened → Rises 0 xs → Legal history begun xs
+    ensures kept { (begun : Begun) (xs : List (ℕ × HistoryEntry)) → Opened begun.opened → Rises 0 xs → Legal history begun xs
         → NoCollision begun.opened (run_of xs) → InvariantHolds (state_seen begun.opened xs) }
-    ensures sound { (begun : Begun) (xs : List (ℕ × Entry)) → Opened begun.opened → Rises 0 xs → Legal history begun xs
+    ensures sound { (begun : Begun) (xs : List (ℕ × HistoryEntry)) → Opened begun.opened → Rises 0 xs → Legal history begun xs
         → NoCollision begun.opened (run_of xs) → Sound (state_seen begun.opened xs) }
-    ensures there { (begun : Begun) (xs : List (ℕ × Entry)) → Opened begun.opened → Rises 0 xs → Legal history begun xs
+    ensures there { (begun : Begun) (xs : List (ℕ × HistoryEntry)) → Opened begun.opened → Rises 0 xs → Legal history begun xs
         → NoCollision begun.opened (run_of xs)
         → EachRow (state_seen begun.opened xs).daemon.requests (λ n r. RequestThere (state_seen begun.opened xs) r) }
-    ensures shown { (begun : Begun) (xs : List (ℕ × Entry)) → Opened begun.opened → Rises 0 xs → Legal history begun xs
+    ensures shown { (begun : Begun) (xs : List (ℕ × HistoryEntry)) → Opened begun.opened → Rises 0 xs → Legal history begun xs
         → NoCollision begun.opened (run_of xs)
         → plain_of (state_seen begun.opened xs) ≡ shown_namespace (plain_run (run_steps begun.opened (run_of xs)) (plain_of begun.opened)) }
 {}
@@ -81,7 +81,7 @@ pub fn past_kept()
 /// made, and of which both have the same entries (docs/DEFINITIONS.md, "The machine's history"). So what a pass knows of a name that it
 /// keeps holds in every larger past: nobody else draws entries about the name.
 pub fn kept_same()
-    ensures alike { (begun : Begun) (xs ys : List (ℕ × Entry)) (x : Name) → Opened begun.opened → IsPart history xs ys
+    ensures alike { (begun : Begun) (xs ys : List (ℕ × HistoryEntry)) (x : Name) → Opened begun.opened → IsPart history xs ys
         → Legal history begun xs → Legal history begun ys → Rooted begun x xs → chain history x xs ≡ chain history x ys
         → Alike x (state_seen begun.opened xs) (state_seen begun.opened ys) }
 {}

@@ -4,7 +4,7 @@ use Rattle.std.specs.FinMap.{get, insert, remove, len}
 use Rattle.dm_durable.specs.declared.daemon.Inode.{Inode}
 use Rattle.dm_durable.specs.Daemon.{size_of_files}
 use Rattle.dm_durable.specs.Inodes.{bitfile_of, length_of}
-use Rattle.dm_durable.specs.Tables.{Numbered}
+use Rattle.dm_durable.specs.Tables.{ByNumber}
 use Rattle.dm_rows.specs.Places.{with_key}
 use Rattle.dm_tables.specs.Totals.{weight_at}
 use Rattle.dm_tables.specs.Rows.{adjust}
@@ -33,11 +33,11 @@ none_found k None e = refl
 none_found k (Some i) e = cc
 
 -- ---- what is kept, when an inode goes
-pub record Kept (counts : Numbered ℕ) (size : ℕ) (inodes : Numbered Inode) : Type 0 where
+pub record Kept (counts : ByNumber ℕ) (size : ℕ) (inodes : ByNumber Inode) : Type 0 where
   pub counted : Counted counts inodes
   pub sized : size ≡ size_of_files inodes % 2 ^ 64
 
-abbrev pub kept_out : (counts after : Numbered ℕ) (size len : ℕ) (inodes left : Numbered Inode) (n : ℕ) (i : Inode) (named : Option ℕ)
+abbrev pub kept_out : (counts after : ByNumber ℕ) (size len : ℕ) (inodes left : ByNumber Inode) (n : ℕ) (i : Inode) (named : Option ℕ)
     → get inodes n ≡ Some i → left ≡ remove inodes n → named ≡ bitfile_of i.contents → after ≡ with_one_fewer counts named → len ≡ length_of i.contents → len < 2 ^ 64
     → Counted counts inodes → size ≡ size_of_files inodes % 2 ^ 64
     → Kept after ((size + (2 ^ 64 - len)) % 2 ^ 64) left
@@ -50,7 +50,7 @@ kept_out counts after size len inodes left n i named there out names fewer is sm
       sized = size_less size len (size_of_files (remove inodes n)) (size_of_files inodes) small sized whole ∙ ap (λ m. size_of_files m % 2 ^ 64) (sym out);
     }
 
-abbrev pub kept_in : (counts after : Numbered ℕ) (size length : ℕ) (inodes more : Numbered Inode) (n : ℕ) (i : Inode) (named : Option ℕ)
+abbrev pub kept_in : (counts after : ByNumber ℕ) (size length : ℕ) (inodes more : ByNumber Inode) (n : ℕ) (i : Inode) (named : Option ℕ)
     → get inodes n ≡ None → more ≡ insert inodes n i → named ≡ bitfile_of i.contents → after ≡ with_one_more counts named → length ≡ length_of i.contents
     → len inodes < 2 ^ 63 → HasCount counts (bitfile_of i.contents) → Counted counts inodes → size ≡ size_of_files inodes % 2 ^ 64
     → Kept after ((size + length) % 2 ^ 64) more
@@ -64,18 +64,18 @@ kept_in counts after size length inodes more n i named absent put names one is f
     }
 
 -- where there was none, none is gone
-pub none_out : (inodes left : Numbered Inode) (n : ℕ) → get inodes n ≡ None → left ≡ remove inodes n → inodes ≡ left
+pub none_out : (inodes left : ByNumber Inode) (n : ℕ) → get inodes n ≡ None → left ≡ remove inodes n → inodes ≡ left
 none_out inodes left n absent out = sym (out ∙ remove-none numbers inodes n absent)
 
 -- a row that is taken out, changed and put back is the row changed where it is
-pub put_back : (inodes left back : Numbered Inode) (n key : ℕ) (f : Inode → Inode) (x y : Inode) → get inodes n ≡ Some x → left ≡ remove inodes n → key ≡ n → y ≡ f x
+pub put_back : (inodes left back : ByNumber Inode) (n key : ℕ) (f : Inode → Inode) (x y : Inode) → get inodes n ≡ Some x → left ≡ remove inodes n → key ≡ n → y ≡ f x
     → back ≡ insert left key y → back ≡ adjust inodes n f
 put_back inodes left back n key f x y there taken same changed put =
     put ∙ ap (λ k. insert left k y) same ∙ ap (λ m. insert m n y) taken ∙ insert-remove numbers inodes n y ∙ ap (insert inodes n) changed
     ∙ sym (adjust-there inodes n f x there)
 
-pub none_back : (inodes left : Numbered Inode) (n : ℕ) (f : Inode → Inode) → get inodes n ≡ None → left ≡ remove inodes n → left ≡ adjust inodes n f
+pub none_back : (inodes left : ByNumber Inode) (n : ℕ) (f : Inode → Inode) → get inodes n ≡ None → left ≡ remove inodes n → left ≡ adjust inodes n f
 none_back inodes left n f absent taken = taken ∙ remove-none numbers inodes n absent ∙ sym (adjust-none inodes n f absent)
 
-pub gone_here : (inodes left : Numbered Inode) (n key : ℕ) → left ≡ remove inodes n → key ≡ n → get left key ≡ None
+pub gone_here : (inodes left : ByNumber Inode) (n key : ℕ) → left ≡ remove inodes n → key ≡ n → get left key ≡ None
 gone_here inodes left n key out same = ap (λ m. get m key) out ∙ ap (get (remove inodes n)) same ∙ removed-here numbers inodes n

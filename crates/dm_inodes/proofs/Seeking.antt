@@ -8,7 +8,7 @@ use Rattle.dm_durable.specs.declared.daemon.Contents.{Contents}
 use Rattle.dm_durable.specs.declared.daemon.Contents.TheVariants.{Regular, Making, Dual, Offline}
 use Rattle.dm_durable.specs.declared.daemon.Inode.{Inode}
 use Rattle.dm_durable.specs.Inodes.{bitfile_made, has_making, is_making}
-use Rattle.dm_durable.specs.Tables.{Numbered}
+use Rattle.dm_durable.specs.Tables.{ByNumber}
 use Rattle.dm_inodes.specs.Counts.{is_making_row}
 use Rattle.dm_tables.proofs.Orders.{numbers}
 use Rattle.dm_tables.proofs.Any.{any-entries}
@@ -28,10 +28,10 @@ drop_there l i x e =
     drop_more l i x (slice_get_within l i x e) ∙ ap (λ y. y ∷ drop (i + 1) l) (get_or_from_slice_get l i x x e)
 
 -- what is left tells whether there is one
-abbrev pub Seeking : ℕ → Numbered Inode → Type 0
+abbrev pub Seeking : ℕ → ByNumber Inode → Type 0
 Seeking at inodes = has_making inodes ≡ list_any making_entry (drop at (entries inodes))
 
-pub seeking_begun : (inodes : Numbered Inode) → Seeking 0 inodes
+pub seeking_begun : (inodes : ByNumber Inode) → Seeking 0 inodes
 seeking_begun inodes = any-entries numbers (λ n i. is_making i.contents) inodes
 
 row_at : (at : ℕ) (l : List (ℕ × Inode)) (o : Option (ℕ × Inode)) → at < length l → slice_get l at ≡ o
@@ -40,7 +40,7 @@ row_at at [] o small e = absurd (omega arith)
 row_at at (x ∷ l) None small e = let f = slice_get-get_or (x ∷ l) at x small in cc
 row_at at (x ∷ l) (Some y) small e = ap (list_any making_entry) (drop_there (x ∷ l) at y e)
 
-module _ (at : ℕ) (inodes : Numbered Inode) where
+module _ (at : ℕ) (inodes : ByNumber Inode) where
   turn : at < len inodes → Seeking at inodes
       → has_making inodes ≡ (is_making_row (slice_get (entries inodes) at) || list_any making_entry (drop (at + 1) (entries inodes)))
   turn small so_far = so_far ∙ row_at at (entries inodes) (slice_get (entries inodes) at) (let e = len-entries inodes in omega arith) refl
@@ -51,5 +51,5 @@ module _ (at : ℕ) (inodes : Numbered Inode) where
   pub seeking_found : at < len inodes → is_making_row (slice_get (entries inodes) at) ≡ true → Seeking at inodes → has_making inodes ≡ true
   seeking_found small there so_far = turn small so_far ∙ ap (λ b. b || list_any making_entry (drop (at + 1) (entries inodes))) there
 
-pub seeking_end : (at : ℕ) (inodes : Numbered Inode) → len inodes ≤ at → Seeking at inodes → has_making inodes ≡ false
+pub seeking_end : (at : ℕ) (inodes : ByNumber Inode) → len inodes ≤ at → Seeking at inodes → has_making inodes ≡ false
 seeking_end at inodes past so_far = so_far ∙ ap (list_any making_entry) (drop_all at (entries inodes) (let e = len-entries inodes in omega arith))

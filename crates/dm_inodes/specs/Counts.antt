@@ -2,7 +2,7 @@
 use Rattle.std.specs.Prelude.{◌≡◌, ℕ, ◌+◌, ◌-◌, Bool, true, false, cond, Option, None, Some, IsSome}
 use Rattle.std.specs.FinMap as map
 use Rattle.dm_durable.specs.declared.daemon.Inode.{Inode}
-use Rattle.dm_durable.specs.Tables.{Numbered}
+use Rattle.dm_durable.specs.Tables.{ByNumber}
 use Rattle.dm_durable.specs.Inodes.{bitfile_of, bitfile_made, is_bitfile, is_making, with_contents, as_ended}
 use Rattle.dm_rules.specs.Numbers.{as_word}
 use Rattle.dm_tables.specs.Rows.{adjust}
@@ -13,7 +13,7 @@ abbrev pub naming_of : ℕ → Inode → ℕ
 naming_of b i = cond (is_bitfile b (bitfile_of i.contents)) 1 0
 
 -- how many inodes name the bitfile
-abbrev pub naming : Numbered Inode → ℕ → ℕ
+abbrev pub naming : ByNumber Inode → ℕ → ℕ
 naming inodes b = total (naming_of b) inodes
 
 -- the number that is kept of a bitfile, where one is
@@ -22,16 +22,16 @@ count_at None = 0
 count_at (Some n) = n
 
 -- what is kept is how many inodes name each bitfile
-abbrev pub Counted : Numbered ℕ → Numbered Inode → Type 0
+abbrev pub Counted : ByNumber ℕ → ByNumber Inode → Type 0
 Counted counts inodes = (b : ℕ) → count_at (map.get counts b) ≡ naming inodes b
 
 -- a number is kept of the bitfile, if there is a bitfile
-abbrev pub HasCount : Numbered ℕ → Option ℕ → Type 0
+abbrev pub HasCount : ByNumber ℕ → Option ℕ → Type 0
 HasCount counts None = Unit {0}
 HasCount counts (Some b) = IsSome (map.get counts b)
 
 -- each bitfile of which a number is kept in the first has one in the second
-abbrev pub KeepsCounts : Numbered ℕ → Numbered ℕ → Type 0
+abbrev pub KeepsCounts : ByNumber ℕ → ByNumber ℕ → Type 0
 KeepsCounts old new = (b : ℕ) → IsSome (map.get old b) → IsSome (map.get new b)
 
 abbrev pub raised : ℕ → ℕ
@@ -41,12 +41,12 @@ abbrev pub lowered : ℕ → ℕ
 lowered n = n - 1
 
 -- one inode more names the bitfile, if there is one
-abbrev pub with_one_more : Numbered ℕ → Option ℕ → Numbered ℕ
+abbrev pub with_one_more : ByNumber ℕ → Option ℕ → ByNumber ℕ
 with_one_more counts None = counts
 with_one_more counts (Some b) = adjust counts b raised
 
 -- one fewer does
-abbrev pub with_one_fewer : Numbered ℕ → Option ℕ → Numbered ℕ
+abbrev pub with_one_fewer : ByNumber ℕ → Option ℕ → ByNumber ℕ
 with_one_fewer counts None = counts
 with_one_fewer counts (Some b) = adjust counts b lowered
 
@@ -62,7 +62,7 @@ made_at None = None
 made_at (Some e) = bitfile_made e.1.contents
 
 -- the inodes with the put of that entry's inode ended, and not every copy stored
-abbrev pub ended_at : Numbered Inode → Option (ℕ × Inode) → Numbered Inode
+abbrev pub ended_at : ByNumber Inode → Option (ℕ × Inode) → ByNumber Inode
 ended_at inodes None = inodes
 ended_at inodes (Some e) = adjust inodes e.0 (with_contents (as_ended false))
 

@@ -14,7 +14,7 @@ use Rattle.dm_durable.specs.DaemonConditions.{OneOrTwo}
 use Rattle.dm_durable.specs.declared.group.VolumeRow.{VolumeRow}
 use Rattle.dm_tables.specs.Rows.{EachRow}
 use Rattle.dm_invariant.specs.Catalogue.{BitfileKept}
-use Rattle.dm_durable.specs.Tables.{Numbered, Named}
+use Rattle.dm_durable.specs.Tables.{ByNumber, ByName}
 use Rattle.dm_durable.specs.declared.daemon.Entry.{Entry}
 use Rattle.dm_durable.specs.declared.group.BitfileRow.{BitfileRow}
 use Rattle.dm_model.specs.Files.{asked_by}
@@ -41,7 +41,7 @@ part_and_rest bytes offset from n at =
     ∙ take-append-drop n (drop from bytes)
 
 -- the chunks from an offset on give the bytes from there on
-joined_content : (images : Named Image) (bytes : List ℕ) (from end : ℕ) (cs : List Chunk) → Joins from cs end
+joined_content : (images : ByName Image) (bytes : List ℕ) (from end : ℕ) (cs : List Chunk) → Joins from cs end
     → ((c : Chunk) → IsAmong c cs → ChunkKnown images bytes c) → length bytes ≡ end
     → joined_from images from end cs ≡ Some (drop from bytes)
 joined_content images bytes from end [] joins known whole =
@@ -55,7 +55,7 @@ joined_content images bytes from end (c ∷ cs) joins known whole =
     ∙ ap Some (part_and_rest bytes c.offset from c.len joins.0)
 
 -- the chunks of a bitfile's row
-assembled_content : (images : Named Image) (row : BitfileRow) (bytes : List ℕ) → Joins 0 row.chunks row.len
+assembled_content : (images : ByName Image) (row : BitfileRow) (bytes : List ℕ) → Joins 0 row.chunks row.len
     → ((c : Chunk) → IsAmong c row.chunks → ChunkKnown images bytes c) → length bytes ≡ row.len
     → joined_from images 0 row.len row.chunks ≡ Some bytes
 assembled_content images row bytes joins known whole = joined_content images bytes 0 row.len row.chunks joins known whole
@@ -63,7 +63,7 @@ assembled_content images row bytes joins known whole = joined_content images byt
 -- ---- copies
 
 -- the copy of a bitfile that a group has is its content
-copy_is_content : (g : ℕ) (entries : Numbered Entry) (contents : Numbered (List ℕ)) (volumes : Named VolumeRow) (s : Side) (b : ℕ) (row : BitfileRow)
+copy_is_content : (g : ℕ) (entries : ByNumber Entry) (contents : ByNumber (List ℕ)) (volumes : ByName VolumeRow) (s : Side) (b : ℕ) (row : BitfileRow)
     → BitfileKept g entries contents volumes s.images b row → get s.group.tables.bitfiles b ≡ Some row
     → (bytes : List ℕ) × (assembled_bytes s b ≡ Some bytes) × (get contents b ≡ Some bytes) × (length bytes ≡ row.len)
 copy_is_content g entries contents volumes s b row f is =
@@ -71,7 +71,7 @@ copy_is_content g entries contents volumes s b row f is =
     (f.of.bytes, ap (assembled_bytes_of s.images) is ∙ assembled_content s.images row f.of.bytes f.joins f.known whole, f.of.content, whole)
 
 -- and has the length of its entry
-pub copy_of_entry : (g : ℕ) (entries : Numbered Entry) (contents : Numbered (List ℕ)) (volumes : Named VolumeRow) (s : Side) (b : ℕ) (e : Entry)
+pub copy_of_entry : (g : ℕ) (entries : ByNumber Entry) (contents : ByNumber (List ℕ)) (volumes : ByName VolumeRow) (s : Side) (b : ℕ) (e : Entry)
     → EachRow s.group.tables.bitfiles (BitfileKept g entries contents volumes s.images) → get entries b ≡ Some e
     → IsSome (get s.group.tables.bitfiles b)
     → (bytes : List ℕ) × (assembled_bytes s b ≡ Some bytes) × (get contents b ≡ Some bytes) × (length bytes ≡ e.len)
@@ -81,7 +81,7 @@ copy_of_entry g entries contents volumes s b e k is there =
     let copy = copy_is_content g entries contents volumes s b row.0 f row.1 in
     (copy.0, copy.1, copy.2, copy.3 ∙ sym f.len ∙ ap (λ x. x.len) (one_row entries b b f.of.entry e refl f.of.is is))
 
-first_is : (sides : Numbered Side) (b : ℕ) (asked : List GroupId) (g : GroupId) (rest : List GroupId) (s : Side) (bytes : List ℕ) → asked ≡ g ∷ rest
+first_is : (sides : ByNumber Side) (b : ℕ) (asked : List GroupId) (g : GroupId) (rest : List GroupId) (s : Side) (bytes : List ℕ) → asked ≡ g ∷ rest
     → get sides g.0 ≡ Some s → assembled_bytes s b ≡ Some bytes → first_copy sides b asked ≡ bytes
 first_is sides b asked g rest s bytes first side copy =
     ap (first_copy sides b) first ∙ ap (λ o. copy_or (assembled_bytes_in o b)) side ∙ ap copy_or copy

@@ -7,7 +7,7 @@ use Rattle.dm_durable.specs.declared.group.GroupRecord.{GroupRecord}
 use Rattle.dm_durable.specs.declared.group.GroupStep.{GroupStep}
 use Rattle.dm_durable.specs.declared.group.GroupStep.TheVariants.{Volume, Commit, Delete, Move, Free, Reuse}
 use Rattle.dm_durable.specs.declared.group.VolumeRow.{VolumeRow}
-use Rattle.dm_durable.specs.Tables.{Numbered, Named}
+use Rattle.dm_durable.specs.Tables.{ByNumber, ByName}
 use Rattle.dm_durable.specs.Volumes.{tip_in}
 use Rattle.dm_model.specs.declared.state.Side.{Side}
 use Rattle.dm_invariant.specs.Doubts.{ChunkInHand, GroupMayLandIf, GroupStepNeeds}
@@ -15,7 +15,7 @@ use Rattle.dm_invariant.specs.Places.{ChunkCovers, IsDoubted, IsPut, ZoneCovers}
 use Rattle.dm_invariant.proofs.Options.{same_row}
 
 -- the bytes of a chunk lie in the zone that it names
-pub zone_covers : (volumes : Named VolumeRow) (tips : Named ℕ) (c : Chunk) (vsn : List ℕ) (place : ℕ) → ChunkInHand volumes tips c
+pub zone_covers : (volumes : ByName VolumeRow) (tips : ByName ℕ) (c : Chunk) (vsn : List ℕ) (place : ℕ) → ChunkInHand volumes tips c
     → ChunkCovers c vsn place → ZoneCovers c vsn place
 zone_covers volumes tips c vsn place h covers =
     let headed = h.headed in
@@ -23,12 +23,12 @@ zone_covers volumes tips c vsn place h covers =
     record { same = covers.same; low = omega (arith, headed, low); high = covers.high }
 
 -- and end before the tip
-pub ends_below : (volumes : Named VolumeRow) (tips : Named ℕ) (c : Chunk) (v : VolumeRow) → ChunkInHand volumes tips c
+pub ends_below : (volumes : ByName VolumeRow) (tips : ByName ℕ) (c : Chunk) (v : VolumeRow) → ChunkInHand volumes tips c
     → map.get volumes c.vsn.0 ≡ Some v → c.place + c.len ≤ tip_in tips c.vsn.0 v
 ends_below volumes tips c v h is =
     subst (λ (x : VolumeRow). c.place + c.len ≤ tip_in tips c.vsn.0 x) (same_row (map.get volumes c.vsn.0) h.volume v h.is is) h.within
 
-module _ (g : ℕ) (entries : Numbered Entry) (contents : Numbered (List ℕ)) (taken deleted : Numbered (Unit {0})) (s : Side) where
+module _ (g : ℕ) (entries : ByNumber Entry) (contents : ByNumber (List ℕ)) (taken deleted : ByNumber (Unit {0})) (s : Side) where
   step_in_hand : (now : ℕ) (step : GroupStep) → GroupStepNeeds g entries contents taken deleted s now step → (c : Chunk) → IsPut c step
       → ChunkInHand s.group.tables.volumes s.group.tips c
   step_in_hand now (Volume vsn slot version size) needs c put = absurd put

@@ -6,7 +6,7 @@ use Rattle.dm_model.specs.declared.state.History.{History}
 use Rattle.dm_model.specs.declared.state.Joint.{Joint}
 use Rattle.dm_model.specs.declared.state.Side.{Side}
 use Rattle.dm_invariant.specs.Kept.{committed_in, deleted_in, SideKept, InvariantHolds}
-use Rattle.dm_invariant.specs.Opened.{Fits}
+use Rattle.dm_invariant.specs.Opened.{IsAsConfigured}
 use Rattle.dm_invariant.specs.Sound.{CopiesSound, GroupSound, Sound}
 use Rattle.dm_invariant.proofs.Assembled.{copy_of_entry}
 
@@ -36,7 +36,7 @@ kept_sound j k = record {
 }
 
 -- and fits the configuration
-pub kept_fits : (j : Joint) → InvariantHolds j → Fits j
+pub kept_fits : (j : Joint) → InvariantHolds j → IsAsConfigured j
 kept_fits j k = record { entries = k.configured; sides = λ g s is. (k.sides g s is).number }
 
 -- each copy of a sound state is the content of its bitfile

@@ -8,7 +8,7 @@ use Rattle.dm_tables.specs.Rows.{EachRow, adjust}
 use Rattle.dm_tables.proofs.Orders.{numbers, same_or}
 use Rattle.dm_tables.proofs.Adjusted.{adjusted, adjusted_row, adjusted-beside, each-adjust}
 use Rattle.dm_tables.proofs.Any.{any-none, any-some, any-false}
-use Rattle.dm_durable.specs.Tables.{Numbered}
+use Rattle.dm_durable.specs.Tables.{ByNumber}
 use Rattle.dm_durable.specs.Entries.{after_letting_go, after_letting_go_if}
 use Rattle.dm_durable.specs.Inodes.{bitfile_of, bitfile_in, is_bitfile, is_named}
 use Rattle.dm_durable.specs.declared.daemon.Entry.{Entry}
@@ -39,13 +39,13 @@ is_other b (Some c) other =
     ] refl
 
 -- the bitfile of an inode of the table is named
-pub named_by : (inodes : Numbered Inode) (n : ℕ) (i : Inode) (b : ℕ) → get inodes n ≡ Some i → bitfile_of i.contents ≡ Some b
+pub named_by : (inodes : ByNumber Inode) (n : ℕ) (i : Inode) (b : ℕ) → get inodes n ≡ Some i → bitfile_of i.contents ≡ Some b
     → is_named inodes b ≡ true
 named_by inodes n i b is names =
     any-some numbers (λ k x. is_bitfile b (bitfile_of x.contents)) inodes n i is (is_this b (bitfile_of i.contents) names)
 
 -- where only the inode n is changed, a bitfile that none names now, and that n didn't name, was named by none before
-named_still : (old new : Numbered Inode) (n : ℕ) → ((k : ℕ) → k ≢ n → get new k ≡ get old k) → (b : ℕ)
+named_still : (old new : ByNumber Inode) (n : ℕ) → ((k : ℕ) → k ≢ n → get new k ≡ get old k) → (b : ℕ)
     → (bitfile_in (get old n) ≡ Some b → ⊥) → is_named new b ≡ false → is_named old b ≡ false
 named_still old new n beside b other none =
     any-none (λ k x. is_bitfile b (bitfile_of x.contents)) old (λ k x is. elim (same_or numbers n k) [
@@ -57,10 +57,10 @@ named_still old new n beside b other none =
 
 -- ---- look-ups
 -- an entry before and after: the same, or that of the bitfile that was let go, with its deletion time
-abbrev pub StaysOrGoes : Numbered Inode → ℕ → Option ℕ → ℕ → Entry → Entry → Type 0
+abbrev pub StaysOrGoes : ByNumber Inode → ℕ → Option ℕ → ℕ → Entry → Entry → Type 0
 StaysOrGoes inodes time o q e f = (f ≡ e) ⊎ ((o ≡ Some q) × (is_named inodes q ≡ false) × (f ≡ gone_at time e))
 
-there_at : (entries : Numbered Entry) (inodes : Numbered Inode) (time b q : ℕ) (e : Entry) → get entries q ≡ Some e → (named : Bool)
+there_at : (entries : ByNumber Entry) (inodes : ByNumber Inode) (time b q : ℕ) (e : Entry) → get entries q ≡ Some e → (named : Bool)
     → is_named inodes b ≡ named
     → (f : Entry) × (get (cond named entries (adjust entries b (gone_at time))) q ≡ Some f) × StaysOrGoes inodes time (Some b) q e f
 there_at entries inodes time b q e is true named = (e, is, inl refl)
@@ -75,12 +75,12 @@ there_at entries inodes time b q e is false named =
     ]
 
 -- each row is still there
-pub let_go-there : (entries : Numbered Entry) (inodes : Numbered Inode) (time : ℕ) (o : Option ℕ)
+pub let_go-there : (entries : ByNumber Entry) (inodes : ByNumber Inode) (time : ℕ) (o : Option ℕ)
     → EachRow entries (λ q e. (f : Entry) × (get (after_letting_go_if entries inodes time o) q ≡ Some f) × StaysOrGoes inodes time o q e f)
 let_go-there entries inodes time None = λ q e is. (e, is, inl refl)
 let_go-there entries inodes time (Some b) = λ q e is. there_at entries inodes time b q e is (is_named inodes b) refl
 
-row_at : (entries : Numbered Entry) (inodes : Numbered Inode) (time b q : ℕ) (f : Entry) (named : Bool) → is_named inodes b ≡ named
+row_at : (entries : ByNumber Entry) (inodes : ByNumber Inode) (time b q : ℕ) (f : Entry) (named : Bool) → is_named inodes b ≡ named
     → get (cond named entries (adjust entries b (gone_at time))) q ≡ Some f
     → (e : Entry) × (get entries q ≡ Some e) × StaysOrGoes inodes time (Some b) q e f
 row_at entries inodes time b q f true named is = (f, is, inl refl)
@@ -91,26 +91,26 @@ row_at entries inodes time b q f false named is =
     ]
 
 -- and each row was there
-pub let_go-row : (entries : Numbered Entry) (inodes : Numbered Inode) (time : ℕ) (o : Option ℕ)
+pub let_go-row : (entries : ByNumber Entry) (inodes : ByNumber Inode) (time : ℕ) (o : Option ℕ)
     → EachRow (after_letting_go_if entries inodes time o) (λ q f. (e : Entry) × (get entries q ≡ Some e) × StaysOrGoes inodes time o q e f)
 let_go-row entries inodes time None = λ q f is. (f, is, inl refl)
 let_go-row entries inodes time (Some b) = λ q f is. row_at entries inodes time b q f (is_named inodes b) refl is
 
 -- no row comes
-none_from : (entries : Numbered Entry) (inodes : Numbered Inode) (time : ℕ) (o : Option ℕ) (q : ℕ) (r : Option Entry)
+none_from : (entries : ByNumber Entry) (inodes : ByNumber Inode) (time : ℕ) (o : Option ℕ) (q : ℕ) (r : Option Entry)
     → get (after_letting_go_if entries inodes time o) q ≡ r → get entries q ≡ None → get (after_letting_go_if entries inodes time o) q ≡ None
 none_from entries inodes time o q None at none = at
 none_from entries inodes time o q (Some f) at none =
     let row = let_go-row entries inodes time o q f at in absurd (none_some (get entries q) row.0 none row.1)
 
 -- a row that was not there is not there
-pub let_go-none : (entries : Numbered Entry) (inodes : Numbered Inode) (time : ℕ) (o : Option ℕ) (q : ℕ) → get entries q ≡ None
+pub let_go-none : (entries : ByNumber Entry) (inodes : ByNumber Inode) (time : ℕ) (o : Option ℕ) (q : ℕ) → get entries q ≡ None
     → get (after_letting_go_if entries inodes time o) q ≡ None
 let_go-none entries inodes time o q none = none_from entries inodes time o q (get (after_letting_go_if entries inodes time o) q) refl none
 
 -- ---- rows
 -- a row is as it was, or it got its deletion time
-each-after_letting_go : (P : ℕ → Entry → Type 0) (entries : Numbered Entry) (inodes : Numbered Inode) (time b : ℕ)
+each-after_letting_go : (P : ℕ → Entry → Type 0) (entries : ByNumber Entry) (inodes : ByNumber Inode) (time b : ℕ)
     → ((e : Entry) → get entries b ≡ Some e → is_named inodes b ≡ false → P b (gone_at time e)) → EachRow entries P
     → EachRow (after_letting_go entries inodes time b) P
 each-after_letting_go P entries inodes time b gone each =
@@ -119,14 +119,14 @@ each-after_letting_go P entries inodes time b gone each =
       | false ↦ λ named. each-adjust numbers P entries b (gone_at time) (λ e is. gone e is named) each
     ] refl
 
-each-after_letting_go_if : (P : ℕ → Entry → Type 0) (entries : Numbered Entry) (inodes : Numbered Inode) (time : ℕ) (o : Option ℕ)
+each-after_letting_go_if : (P : ℕ → Entry → Type 0) (entries : ByNumber Entry) (inodes : ByNumber Inode) (time : ℕ) (o : Option ℕ)
     → ((b : ℕ) (e : Entry) → o ≡ Some b → get entries b ≡ Some e → is_named inodes b ≡ false → P b (gone_at time e)) → EachRow entries P
     → EachRow (after_letting_go_if entries inodes time o) P
 each-after_letting_go_if P entries inodes time None gone each = each
 each-after_letting_go_if P entries inodes time (Some b) gone each = each-after_letting_go P entries inodes time b (λ e is none. gone b e refl is none) each
 
 -- the row of a bitfile that is named stays
-let_go-named : (entries : Numbered Entry) (inodes : Numbered Inode) (time b q : ℕ) → is_named inodes q ≡ true
+let_go-named : (entries : ByNumber Entry) (inodes : ByNumber Inode) (time b q : ℕ) → is_named inodes q ≡ true
     → get (after_letting_go entries inodes time b) q ≡ get entries q
 let_go-named entries inodes time b q named =
     elim (is_named inodes b) as (λ t. is_named inodes b ≡ t → get (cond t entries (adjust entries b (gone_at time))) q ≡ get entries q) [
@@ -134,14 +134,14 @@ let_go-named entries inodes time b q named =
       | false ↦ λ e. adjusted-beside numbers entries b (gone_at time) q (λ same. let f = ap (is_named inodes) same in cc)
     ] refl
 
-after_letting_go_if-named : (entries : Numbered Entry) (inodes : Numbered Inode) (time : ℕ) (o : Option ℕ) (q : ℕ) → is_named inodes q ≡ true
+after_letting_go_if-named : (entries : ByNumber Entry) (inodes : ByNumber Inode) (time : ℕ) (o : Option ℕ) (q : ℕ) → is_named inodes q ≡ true
     → get (after_letting_go_if entries inodes time o) q ≡ get entries q
 after_letting_go_if-named entries inodes time None q named = refl
 after_letting_go_if-named entries inodes time (Some b) q named = let_go-named entries inodes time b q named
 
 -- ---- what is kept of entries
 -- an entry that no inode names has a deletion time, also after only the inode n was changed and its bitfile was let go
-unnamed_here : (entries : Numbered Entry) (old new : Numbered Inode) (time b : ℕ)
+unnamed_here : (entries : ByNumber Entry) (old new : ByNumber Inode) (time b : ℕ)
     → ((q : ℕ) → (Some b ≡ Some q → ⊥) → is_named new q ≡ false → is_named old q ≡ false) → (named : Bool) → is_named new b ≡ named
     → EachRow entries (λ q e. is_named old q ≡ false → IsSome e.gone)
     → EachRow (cond named entries (adjust entries b (gone_at time))) (λ q e. is_named new q ≡ false → IsSome e.gone)
@@ -153,7 +153,7 @@ unnamed_here entries old new time b still false named each = λ q e is none.
       | inr other ↦ each q e other.1 (still q (λ same. other.0 (sym (same_Some b q same))) none)
     ]
 
-unnamed_if : (entries : Numbered Entry) (old new : Numbered Inode) (time : ℕ) (o : Option ℕ)
+unnamed_if : (entries : ByNumber Entry) (old new : ByNumber Inode) (time : ℕ) (o : Option ℕ)
     → ((q : ℕ) → (o ≡ Some q → ⊥) → is_named new q ≡ false → is_named old q ≡ false)
     → EachRow entries (λ q e. is_named old q ≡ false → IsSome e.gone)
     → EachRow (after_letting_go_if entries new time o) (λ q e. is_named new q ≡ false → IsSome e.gone)
@@ -161,30 +161,30 @@ unnamed_if entries old new time None still each = λ q e is none. each q e is (s
 unnamed_if entries old new time (Some b) still each = unnamed_here entries old new time b still (is_named new b) refl each
 
 -- it is so where the bitfile of the inode that changed is let go
-pub let_go-unnamed : (entries : Numbered Entry) (old new : Numbered Inode) (n time : ℕ) → ((k : ℕ) → k ≢ n → get new k ≡ get old k)
+pub let_go-unnamed : (entries : ByNumber Entry) (old new : ByNumber Inode) (n time : ℕ) → ((k : ℕ) → k ≢ n → get new k ≡ get old k)
     → EachRow entries (λ b e. is_named old b ≡ false → IsSome e.gone)
     → EachRow (after_letting_go_if entries new time (bitfile_in (get old n))) (λ b e. is_named new b ≡ false → IsSome e.gone)
 let_go-unnamed entries old new n time beside each = unnamed_if entries old new time (bitfile_in (get old n)) (named_still old new n beside) each
 
 -- the deletion times lie in the past
-pub let_go-gone : (entries : Numbered Entry) (inodes : Numbered Inode) (time : ℕ) (o : Option ℕ)
+pub let_go-gone : (entries : ByNumber Entry) (inodes : ByNumber Inode) (time : ℕ) (o : Option ℕ)
     → EachRow entries (λ b e. IsPast time e.gone) → EachRow (after_letting_go_if entries inodes time o) (λ b e. IsPast time e.gone)
 let_go-gone entries inodes time o each = each-after_letting_go_if (λ b e. IsPast time e.gone) entries inodes time o (λ b e at is none. omega arith) each
 
 -- what holds of a number whatever its entry is still holds
-pub let_go-keys : (P : ℕ → Type 0) (entries : Numbered Entry) (inodes : Numbered Inode) (time : ℕ) (o : Option ℕ)
+pub let_go-keys : (P : ℕ → Type 0) (entries : ByNumber Entry) (inodes : ByNumber Inode) (time : ℕ) (o : Option ℕ)
     → EachRow entries (λ b e. P b) → EachRow (after_letting_go_if entries inodes time o) (λ b e. P b)
 let_go-keys P entries inodes time o each = each-after_letting_go_if (λ b e. P b) entries inodes time o (λ b e at is none. each b e is) each
 
 -- so does what holds of the groups that an entry asks
-pub let_go-asked : (P : List GroupId → Type 0) (entries : Numbered Entry) (inodes : Numbered Inode) (time : ℕ) (o : Option ℕ)
+pub let_go-asked : (P : List GroupId → Type 0) (entries : ByNumber Entry) (inodes : ByNumber Inode) (time : ℕ) (o : Option ℕ)
     → EachRow entries (λ b e. P (groups_asked e)) → EachRow (after_letting_go_if entries inodes time o) (λ b e. P (groups_asked e))
 let_go-asked P entries inodes time o each = each-after_letting_go_if (λ b e. P (groups_asked e)) entries inodes time o (λ b e at is none. each b e is) each
 
 -- ---- what is kept of inodes
 
 -- what an inode of the table holds still agrees with the entries
-pub let_go-held : (entries : Numbered Entry) (contents : Numbered (List ℕ)) (inodes : Numbered Inode) (time : ℕ) (o : Option ℕ) (n : ℕ) (i : Inode)
+pub let_go-held : (entries : ByNumber Entry) (contents : ByNumber (List ℕ)) (inodes : ByNumber Inode) (time : ℕ) (o : Option ℕ) (n : ℕ) (i : Inode)
     → get inodes n ≡ Some i → HeldRightly entries contents i.contents → HeldRightly (after_letting_go_if entries inodes time o) contents i.contents
 let_go-held entries contents inodes time o n i is held =
     held_same entries (after_letting_go_if entries inodes time o) contents contents i.contents

@@ -8,7 +8,7 @@ use Rattle.dm_tables.specs.Rows.{EachRow}
 use Rattle.dm_durable.specs.declared.daemon.Entry.{Entry}
 use Rattle.dm_durable.specs.declared.group.BitfileRow.{BitfileRow}
 use Rattle.dm_durable.specs.declared.group.VolumeRow.{VolumeRow}
-use Rattle.dm_durable.specs.Tables.{Numbered, Named}
+use Rattle.dm_durable.specs.Tables.{ByNumber, ByName}
 use Rattle.dm_durable.specs.Entries.{asks, has_stored}
 use Rattle.dm_durable.specs.GroupConditions.{Joins}
 use Rattle.dm_model.specs.declared.state.Image.{Image}
@@ -17,7 +17,7 @@ use Rattle.dm_invariant.specs.Assemble.{ChunkKnown, SumRight}
 
 -- a chunk of a stored bitfile lies behind the label of a volume that isn't held, before its end, and has a sum exactly
 -- where that volume's chunks do
-pub record LiesBefore (volumes : Named VolumeRow) (c : Chunk) : Type 0 where
+pub record LiesBefore (volumes : ByName VolumeRow) (c : Chunk) : Type 0 where
   pub volume : VolumeRow
   pub is : map.get volumes c.vsn.0 ≡ Some volume
   pub usable : volume.held ≡ None
@@ -26,7 +26,7 @@ pub record LiesBefore (volumes : Named VolumeRow) (c : Chunk) : Type 0 where
   pub sum : is_some c.sum ≡ has_sum volume.version
 
 -- a bitfile that was asked of the group: its entry asks the group, and its content is known and has the entry's length
-pub record AskedBitfile (g : ℕ) (entries : Numbered Entry) (contents : Numbered (List ℕ)) (b : ℕ) : Type 0 where
+pub record AskedBitfile (g : ℕ) (entries : ByNumber Entry) (contents : ByNumber (List ℕ)) (b : ℕ) : Type 0 where
   pub entry : Entry
   pub is : map.get entries b ≡ Some entry
   pub asked : asks entry g ≡ true
@@ -35,7 +35,7 @@ pub record AskedBitfile (g : ℕ) (entries : Numbered Entry) (contents : Numbere
   pub sized : length bytes ≡ entry.len
 
 -- a bitfile of the group: it was asked of it, and its chunks join, lie on volumes, and are known to be its content
-pub record BitfileKept (g : ℕ) (entries : Numbered Entry) (contents : Numbered (List ℕ)) (volumes : Named VolumeRow) (images : Named Image) (b : ℕ)
+pub record BitfileKept (g : ℕ) (entries : ByNumber Entry) (contents : ByNumber (List ℕ)) (volumes : ByName VolumeRow) (images : ByName Image) (b : ℕ)
     (row : BitfileRow) : Type 0 where
   pub of : AskedBitfile g entries contents b
   pub len : of.entry.len ≡ row.len
@@ -45,12 +45,12 @@ pub record BitfileKept (g : ℕ) (entries : Numbered Entry) (contents : Numbered
   pub sums : (c : Chunk) → IsAmong c row.chunks → SumRight of.bytes c
 
 -- what an entry says is stored is there, unless it is being dropped
-abbrev pub StoredKept : ℕ → Numbered Entry → Numbered BitfileRow → Type 0
+abbrev pub StoredKept : ℕ → ByNumber Entry → ByNumber BitfileRow → Type 0
 StoredKept g entries bitfiles = EachRow entries (λ b e. e.dropping ≡ false → has_stored e g ≡ true → IsSome (map.get bitfiles b))
 
 -- the bitfiles of a group agree with the entries, and with what was committed and deleted
-pub record CatalogueKept (g : ℕ) (entries : Numbered Entry) (contents : Numbered (List ℕ)) (taken : Numbered (Unit {0})) (volumes : Named VolumeRow)
-    (images : Named Image) (bitfiles : Numbered BitfileRow) (committed deleted : Numbered (Unit {0})) : Type 0 where
+pub record CatalogueKept (g : ℕ) (entries : ByNumber Entry) (contents : ByNumber (List ℕ)) (taken : ByNumber (Unit {0})) (volumes : ByName VolumeRow)
+    (images : ByName Image) (bitfiles : ByNumber BitfileRow) (committed deleted : ByNumber (Unit {0})) : Type 0 where
   pub bitfile : EachRow bitfiles (BitfileKept g entries contents volumes images)
   pub stored : StoredKept g entries bitfiles
   -- what was committed is there, unless it is being dropped; and its content is known

@@ -22,7 +22,7 @@ use Rattle.dm_durable.specs.declared.group.GroupRecord.{GroupRecord}
 use Rattle.dm_durable.specs.declared.group.GroupStep.{GroupStep}
 use Rattle.dm_durable.specs.declared.group.GroupStep.TheVariants.{Volume, Commit, Delete, Move, Free, Reuse}
 use Rattle.dm_durable.specs.declared.group.VolumeRow.{VolumeRow}
-use Rattle.dm_durable.specs.Tables.{Numbered, Named}
+use Rattle.dm_durable.specs.Tables.{ByNumber, ByName}
 use Rattle.dm_durable.specs.Daemon.{after_step, size_of}
 use Rattle.dm_durable.specs.DaemonConditions.{MayFollow}
 use Rattle.dm_durable.specs.GroupConditions.{MayGroupFollow}
@@ -43,30 +43,30 @@ use Rattle.dm_invariant.specs.Volumes.{IsOfConf}
 -- ---- the daemon
 
 -- no put of the bitfile is open
-abbrev pub NoPutOf : Numbered OpenRequest → ℕ → Type 0
+abbrev pub NoPutOf : ByNumber OpenRequest → ℕ → Type 0
 NoPutOf requests b = PutOpen requests b → ⊥
 
 -- no request of the bitfile is open
-abbrev pub NoRequestOf : Numbered OpenRequest → ℕ → Type 0
+abbrev pub NoRequestOf : ByNumber OpenRequest → ℕ → Type 0
 NoRequestOf requests b = EachRow requests (λ k r. r.bfid.0 ≡ b → ⊥)
 
 -- where the file of a path is being made into a bitfile, no put of that bitfile is open
-abbrev pub NotBeingMade : DaemonTables → Numbered OpenRequest → List ℕ → Type 0
+abbrev pub NotBeingMade : DaemonTables → ByNumber OpenRequest → List ℕ → Type 0
 NotBeingMade t requests path = (n : Ino) (i : Inode) (bytes : List ℕ) (b : Bfid) → map.get t.names path ≡ Some n → map.get t.inodes n.0 ≡ Some i
     → i.contents ≡ Making bytes b → NoPutOf requests b.0
 
 -- each of these groups is configured
-abbrev pub AllConfigured : Numbered Side → List GroupId → Type 0
+abbrev pub AllConfigured : ByNumber Side → List GroupId → Type 0
 AllConfigured sides groups = (g : GroupId) → IsAmong g groups → IsSome (map.get sides g.0)
 
 -- a group has the bitfile
-pub record InGroup (sides : Numbered Side) (g b : ℕ) : Type 0 where
+pub record InGroup (sides : ByNumber Side) (g b : ℕ) : Type 0 where
   pub side : Side
   pub is : map.get sides g ≡ Some side
   pub there : IsSome (map.get side.group.tables.bitfiles b)
 
 -- what is taken is the content
-abbrev pub TakenRight : Numbered Inode → Numbered (List ℕ) → ℕ → List ℕ → Type 0
+abbrev pub TakenRight : ByNumber Inode → ByNumber (List ℕ) → ℕ → List ℕ → Type 0
 TakenRight inodes contents n bytes =
     (i : Inode) (b : Bfid) (len : ℕ) → map.get inodes n ≡ Some i → i.contents ≡ Offline len b → map.get contents b.0 ≡ Some bytes
 
@@ -92,7 +92,7 @@ pub record NotInGroup (b : ℕ) (s : Side) : Type 0 where
 -- put begins where none of the file is open, and ends where none of the bitfile is; a stored copy is in its group; what is
 -- taken is the content; no request is open on what a hard delete takes; and what is dropped is in no group. A restart is
 -- never in doubt: a load journals it
-abbrev pub StepNeeds : DaemonTables → Numbered OpenRequest → Numbered (List ℕ) → ℕ → Numbered Side → DaemonStep → Type 0
+abbrev pub StepNeeds : DaemonTables → ByNumber OpenRequest → ByNumber (List ℕ) → ℕ → ByNumber Side → DaemonStep → Type 0
 StepNeeds t requests contents cap sides (Write path change bytes) = size_of (after_step t (Write path change bytes)) ≤ cap
 StepNeeds t requests contents cap sides (Remove path change) = Unit {0}
 StepNeeds t requests contents cap sides (BeginPut path b groups) = NotBeingMade t requests path × AllConfigured sides groups
@@ -109,13 +109,13 @@ StepNeeds t requests contents cap sides Restart = ⊥
 StepNeeds t requests contents cap sides (Age age) = Unit {0}
 
 -- a record of the daemon may land
-pub record MayLand (t : DaemonTables) (requests : Numbered OpenRequest) (contents : Numbered (List ℕ)) (cap : ℕ) (sides : Numbered Side)
+pub record MayLand (t : DaemonTables) (requests : ByNumber OpenRequest) (contents : ByNumber (List ℕ)) (cap : ℕ) (sides : ByNumber Side)
     (r : DaemonRecord) : Type 0 where
   pub follow : MayFollow t r
   pub needs : StepNeeds t requests contents cap sides r.step
 
 -- so may the one in doubt, if there is one
-abbrev pub MayLandIf : DaemonTables → Numbered OpenRequest → Numbered (List ℕ) → ℕ → Numbered Side → Option DaemonRecord → Type 0
+abbrev pub MayLandIf : DaemonTables → ByNumber OpenRequest → ByNumber (List ℕ) → ℕ → ByNumber Side → Option DaemonRecord → Type 0
 MayLandIf t requests contents cap sides None = Unit {0}
 MayLandIf t requests contents cap sides (Some r) = MayLand t requests contents cap sides r
 
@@ -123,7 +123,7 @@ MayLandIf t requests contents cap sides (Some r) = MayLand t requests contents c
 
 -- the zone of a chunk that a step in doubt puts on a volume lies behind the label of a volume that isn't held, with the headers
 -- of the zone and of the chunk before the chunk's bytes, which end before the tip
-pub record ChunkInHand (volumes : Named VolumeRow) (tips : Named ℕ) (c : Chunk) : Type 0 where
+pub record ChunkInHand (volumes : ByName VolumeRow) (tips : ByName ℕ) (c : Chunk) : Type 0 where
   pub volume : VolumeRow
   pub is : map.get volumes c.vsn.0 ≡ Some volume
   pub usable : volume.held ≡ None
@@ -133,8 +133,8 @@ pub record ChunkInHand (volumes : Named VolumeRow) (tips : Named ℕ) (c : Chunk
 
 -- what a step that puts chunks of a bitfile on volumes needs: the bitfile was asked of the group, the chunks are known to be
 -- parts of the content with right sums, and their zones are in hand; and the group wasn't told to delete the bitfile
-pub record PutNeeds (g : ℕ) (entries : Numbered Entry) (contents : Numbered (List ℕ)) (images : Named Image) (volumes : Named VolumeRow)
-    (tips : Named ℕ) (deleted : Numbered (Unit {0})) (b : ℕ) (IsNew : Chunk → Type 0) : Type 0 where
+pub record PutNeeds (g : ℕ) (entries : ByNumber Entry) (contents : ByNumber (List ℕ)) (images : ByName Image) (volumes : ByName VolumeRow)
+    (tips : ByName ℕ) (deleted : ByNumber (Unit {0})) (b : ℕ) (IsNew : Chunk → Type 0) : Type 0 where
   pub of : AskedBitfile g entries contents b
   pub known : (c : Chunk) → IsNew c → ChunkKnown images of.bytes c
   pub sums : (c : Chunk) → IsNew c → SumRight of.bytes c
@@ -143,38 +143,38 @@ pub record PutNeeds (g : ℕ) (entries : Numbered Entry) (contents : Numbered (L
 
 -- what a commit needs besides: its length is the content's, no place is of two of its chunks, and no reservation is of the
 -- bitfile
-pub record CommitNeeds (g : ℕ) (entries : Numbered Entry) (contents : Numbered (List ℕ)) (images : Named Image) (volumes : Named VolumeRow)
-    (tips : Named ℕ) (deleted : Numbered (Unit {0})) (reservations : Numbered Reserved) (b len : ℕ) (chunks : List Chunk) : Type 0 where
+pub record CommitNeeds (g : ℕ) (entries : ByNumber Entry) (contents : ByNumber (List ℕ)) (images : ByName Image) (volumes : ByName VolumeRow)
+    (tips : ByName ℕ) (deleted : ByNumber (Unit {0})) (reservations : ByNumber Reserved) (b len : ℕ) (chunks : List Chunk) : Type 0 where
   pub puts : PutNeeds g entries contents images volumes tips deleted b (λ c. IsAmong c chunks)
   pub whole : length puts.of.bytes ≡ len
   pub apart : ChunksApart chunks
   pub unreserved : EachRow reservations (λ n r. r.bfid.0 ≡ b → ⊥)
 
 -- nobody uses the volume: no mount of it is open, and no reservation has a piece there
-pub record IsUnused (mounts : Numbered MountState) (reservations : Numbered Reserved) (vsn : List ℕ) : Type 0 where
+pub record IsUnused (mounts : ByNumber MountState) (reservations : ByNumber Reserved) (vsn : List ℕ) : Type 0 where
   pub unmounted : EachRow mounts (λ m x. x.vsn.0 ≡ vsn → ⊥)
   pub unreserved : EachRow reservations (λ n r. (p : Piece) → IsAmong p r.pieces → p.vsn.0 ≡ vsn → ⊥)
 
 -- a new volume is one of the configuration's, with its size, and no mount of it is open
-pub record VolumeNeeds (conf : GroupConf) (mounts : Numbered MountState) (vsn : List ℕ) (size : ℕ) : Type 0 where
+pub record VolumeNeeds (conf : GroupConf) (mounts : ByNumber MountState) (vsn : List ℕ) (size : ℕ) : Type 0 where
   pub configured : IsOfConf conf vsn
   pub sized : size ≡ conf.size
   pub unmounted : EachRow mounts (λ m x. x.vsn.0 ≡ vsn → ⊥)
 
 -- a volume that is freed isn't empty, and nobody uses it
-pub record FreeNeeds (volumes : Named VolumeRow) (tips : Named ℕ) (mounts : Numbered MountState) (reservations : Numbered Reserved)
+pub record FreeNeeds (volumes : ByName VolumeRow) (tips : ByName ℕ) (mounts : ByNumber MountState) (reservations : ByNumber Reserved)
     (vsn : List ℕ) : Type 0 where
   pub unused : IsUnused mounts reservations vsn
   pub filled : (v : VolumeRow) → map.get volumes vsn ≡ Some v → first_zone < tip_in tips vsn v
 
 -- a volume that is used again is ready at the record's time, and nobody uses it
-pub record ReuseNeeds (hold now : ℕ) (volumes : Named VolumeRow) (tips : Named ℕ) (mounts : Numbered MountState) (reservations : Numbered Reserved)
+pub record ReuseNeeds (hold now : ℕ) (volumes : ByName VolumeRow) (tips : ByName ℕ) (mounts : ByNumber MountState) (reservations : ByNumber Reserved)
     (vsn : List ℕ) : Type 0 where
   pub unused : IsUnused mounts reservations vsn
   pub ready : (v : VolumeRow) → map.get volumes vsn ≡ Some v → IsReadyAt now hold (tip_in tips vsn v) v.held
 
 -- what a step of a group needs besides its conditions, at the time of its record
-abbrev pub GroupStepNeeds : ℕ → Numbered Entry → Numbered (List ℕ) → Numbered (Unit {0}) → Numbered (Unit {0}) → Side → ℕ → GroupStep → Type 0
+abbrev pub GroupStepNeeds : ℕ → ByNumber Entry → ByNumber (List ℕ) → ByNumber (Unit {0}) → ByNumber (Unit {0}) → Side → ℕ → GroupStep → Type 0
 GroupStepNeeds g entries contents taken deleted s now (Volume vsn slot version size) = VolumeNeeds s.group.conf s.mounts vsn.0 size
 GroupStepNeeds g entries contents taken deleted s now (Commit b len chunks) =
     CommitNeeds g entries contents s.images s.group.tables.volumes s.group.tips deleted s.group.reservations b.0 len chunks
@@ -187,12 +187,12 @@ GroupStepNeeds g entries contents taken deleted s now (Reuse vsn epoch version) 
     ReuseNeeds s.group.conf.hold now s.group.tables.volumes s.group.tips s.mounts s.group.reservations vsn.0
 
 -- a record of a group may land
-pub record GroupMayLand (g : ℕ) (entries : Numbered Entry) (contents : Numbered (List ℕ)) (taken deleted : Numbered (Unit {0})) (s : Side)
+pub record GroupMayLand (g : ℕ) (entries : ByNumber Entry) (contents : ByNumber (List ℕ)) (taken deleted : ByNumber (Unit {0})) (s : Side)
     (r : GroupRecord) : Type 0 where
   pub follow : MayGroupFollow s.group.tables r
   pub needs : GroupStepNeeds g entries contents taken deleted s r.time.0 r.step
 
 -- so may the one in doubt, if there is one
-abbrev pub GroupMayLandIf : ℕ → Numbered Entry → Numbered (List ℕ) → Numbered (Unit {0}) → Numbered (Unit {0}) → Side → Option GroupRecord → Type 0
+abbrev pub GroupMayLandIf : ℕ → ByNumber Entry → ByNumber (List ℕ) → ByNumber (Unit {0}) → ByNumber (Unit {0}) → Side → Option GroupRecord → Type 0
 GroupMayLandIf g entries contents taken deleted s None = Unit {0}
 GroupMayLandIf g entries contents taken deleted s (Some r) = GroupMayLand g entries contents taken deleted s r

@@ -4,7 +4,7 @@ use Rattle.std.specs.Prelude.{ℕ, Option, None, Some, List}
 use Rattle.std.specs.FinMap as map
 use Rattle.dm_tables.specs.Rows.{EachRow}
 use Rattle.dm_durable.specs.declared.daemon.Entry.{Entry}
-use Rattle.dm_durable.specs.Tables.{Numbered}
+use Rattle.dm_durable.specs.Tables.{ByNumber}
 use Rattle.dm_durable.specs.Entries.{groups_asked}
 use Rattle.dm_model.specs.declared.state.GroupHistory.{GroupHistory}
 use Rattle.dm_model.specs.declared.state.Joint.{Joint}
@@ -22,17 +22,17 @@ use Rattle.dm_invariant.specs.Reservations.{ReservationsKept}
 use Rattle.dm_invariant.specs.Volumes.{VolumesKept, IsNumberOf}
 
 -- what a group ever committed, and what it was told to delete
-abbrev pub committed_in : Option GroupHistory → Numbered (Unit {0})
+abbrev pub committed_in : Option GroupHistory → ByNumber (Unit {0})
 committed_in None = map.empty
 committed_in (Some h) = h.committed
 
-abbrev pub deleted_in : Option GroupHistory → Numbered (Unit {0})
+abbrev pub deleted_in : Option GroupHistory → ByNumber (Unit {0})
 deleted_in None = map.empty
 deleted_in (Some h) = h.deleted
 
 -- a group with its volumes, copies and mounts
-pub record SideKept (entries : Numbered Entry) (contents : Numbered (List ℕ)) (taken : Numbered (Unit {0})) (requests : Numbered OpenRequest)
-    (g : ℕ) (committed deleted : Numbered (Unit {0})) (s : Side) : Type 0 where
+pub record SideKept (entries : ByNumber Entry) (contents : ByNumber (List ℕ)) (taken : ByNumber (Unit {0})) (requests : ByNumber OpenRequest)
+    (g : ℕ) (committed deleted : ByNumber (Unit {0})) (s : Side) : Type 0 where
   pub number : IsNumberOf g s.group.tables.group.0
   pub catalogue : CatalogueKept g entries contents taken s.group.tables.volumes s.images s.group.tables.bitfiles committed deleted
   pub volumes : VolumesKept s.group.conf s.group.tables.time.0 s.group.tables.volumes s.group.tips

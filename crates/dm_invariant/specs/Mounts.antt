@@ -9,7 +9,7 @@ use Rattle.dm_base.specs.declared.volume.Chunk.{Chunk}
 use Rattle.dm_base.specs.declared.volume.Piece.{Piece}
 use Rattle.dm_tables.specs.Rows.{EachRow}
 use Rattle.dm_durable.specs.declared.group.VolumeRow.{VolumeRow}
-use Rattle.dm_durable.specs.Tables.{Numbered, Named}
+use Rattle.dm_durable.specs.Tables.{ByNumber, ByName}
 use Rattle.dm_durable.specs.Volumes.{epoch_or}
 use Rattle.dm_model.specs.declared.state.CopyReservation.{CopyReservation}
 use Rattle.dm_model.specs.declared.state.CopyState.{CopyState}
@@ -28,7 +28,7 @@ abbrev pub mounted_of : MountState → Mounted
 mounted_of x = record { vsn = x.vsn; epoch = x.epoch }
 
 -- the mount of a piece is one of the copy's reservation, which has that piece on that volume
-pub record PieceMount (reservations : Numbered Reserved) (copies : Numbered CopyState) (m b index : ℕ) (p : Piece) (chunk : ℕ)
+pub record PieceMount (reservations : ByNumber Reserved) (copies : ByNumber CopyState) (m b index : ℕ) (p : Piece) (chunk : ℕ)
     (vsn : Vsn) : Type 0 where
   pub copy : CopyState
   pub is : map.get copies b ≡ Some copy
@@ -43,7 +43,7 @@ pub record PieceMount (reservations : Numbered Reserved) (copies : Numbered Copy
   pub volume : p.vsn ≡ vsn
 
 -- the mount of a chunk that is moved is the source of an open move
-pub record SourceMount (moves : Numbered Moving) (m job : ℕ) (b : Bfid) (c : Chunk) (vsn : Vsn) : Type 0 where
+pub record SourceMount (moves : ByNumber Moving) (m job : ℕ) (b : Bfid) (c : Chunk) (vsn : Vsn) : Type 0 where
   pub moving : Moving
   pub is : map.get moves job ≡ Some moving
   pub source : moving.source ≡ m
@@ -52,7 +52,7 @@ pub record SourceMount (moves : Numbered Moving) (m job : ℕ) (b : Bfid) (c : C
   pub volume : c.vsn ≡ vsn
 
 -- and that of where it goes is the target
-pub record TargetMount (moves : Numbered Moving) (m job : ℕ) (b : Bfid) (total : ℕ) (c : Chunk) (version : ℕ) (vsn : Vsn) : Type 0 where
+pub record TargetMount (moves : ByNumber Moving) (m job : ℕ) (b : Bfid) (total : ℕ) (c : Chunk) (version : ℕ) (vsn : Vsn) : Type 0 where
   pub moving : Moving
   pub is : map.get moves job ≡ Some moving
   pub target : moving.target ≡ m
@@ -63,7 +63,7 @@ pub record TargetMount (moves : Numbered Moving) (m job : ℕ) (b : Bfid) (total
   pub volume : c.vsn ≡ vsn
 
 -- the mount of a volume that is used again is that of an open reuse
-pub record ReuseMount (reuses : Numbered Reusing) (m next_epoch version : ℕ) (vsn : Vsn) : Type 0 where
+pub record ReuseMount (reuses : ByNumber Reusing) (m next_epoch version : ℕ) (vsn : Vsn) : Type 0 where
   pub reusing : Reusing
   pub is : map.get reuses m ≡ Some reusing
   pub next : reusing.next_epoch ≡ next_epoch
@@ -76,7 +76,7 @@ pub record NewMount (conf : GroupConf) (format : ℕ) (vsn : Vsn) : Type 0 where
   pub same : format ≡ conf.format
 
 -- what a mount was made for is there
-abbrev pub OriginKept : GroupConf → Numbered Reserved → Numbered CopyState → Numbered Moving → Numbered Reusing → ℕ → Vsn → Origin → Type 0
+abbrev pub OriginKept : GroupConf → ByNumber Reserved → ByNumber CopyState → ByNumber Moving → ByNumber Reusing → ℕ → Vsn → Origin → Type 0
 OriginKept conf reservations copies moves reuses m vsn (origin.New listed format) = NewMount conf format vsn
 OriginKept conf reservations copies moves reuses m vsn (origin.Piece b index p chunk) = PieceMount reservations copies m b.0 index p chunk vsn
 OriginKept conf reservations copies moves reuses m vsn (origin.Chunk b c) = c.vsn ≡ vsn
@@ -98,8 +98,8 @@ MayRead (origin.Target job b total c version) bound = Unit {0}
 MayRead (origin.Reuse next_epoch version reading) bound = Unit {0}
 
 -- what is kept of mounts
-pub record MountsKept (conf : GroupConf) (volumes : Named VolumeRow) (reservations : Numbered Reserved) (copies : Numbered CopyState)
-    (moves : Numbered Moving) (reuses : Numbered Reusing) (group_mounts : Numbered Mounted) (next : ℕ) (mounts : Numbered MountState) : Type 0 where
+pub record MountsKept (conf : GroupConf) (volumes : ByName VolumeRow) (reservations : ByNumber Reserved) (copies : ByNumber CopyState)
+    (moves : ByNumber Moving) (reuses : ByNumber Reusing) (group_mounts : ByNumber Mounted) (next : ℕ) (mounts : ByNumber MountState) : Type 0 where
   pub numbers : EachRow mounts (λ m x. m < next)
   -- the group has what the mounts have
   pub same : (m : ℕ) → map.get group_mounts m ≡ option_map mounted_of (map.get mounts m)

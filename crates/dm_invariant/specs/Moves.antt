@@ -11,7 +11,7 @@ use Rattle.dm_rules.specs.Version.{IsVersion, chunk_header}
 use Rattle.dm_rules.specs.Zone.{zone_header, weight}
 use Rattle.dm_tables.specs.Rows.{EachRow}
 use Rattle.dm_durable.specs.declared.group.VolumeRow.{VolumeRow}
-use Rattle.dm_durable.specs.Tables.{Numbered, Named}
+use Rattle.dm_durable.specs.Tables.{ByNumber, ByName}
 use Rattle.dm_durable.specs.Volumes.{tip_in}
 use Rattle.dm_model.specs.declared.state.Image.{Image}
 use Rattle.dm_model.specs.declared.state.MountState.{MountState}
@@ -24,7 +24,7 @@ use Rattle.dm_invariant.specs.Assemble.{known_on}
 -- ---- moves
 
 -- the zone of a moved chunk lies behind the label of a volume of that version that isn't held, before its tip
-pub record TargetInHand (volumes : Named VolumeRow) (tips : Named ℕ) (version : ℕ) (c : Chunk) : Type 0 where
+pub record TargetInHand (volumes : ByName VolumeRow) (tips : ByName ℕ) (version : ℕ) (c : Chunk) : Type 0 where
   pub volume : VolumeRow
   pub is : map.get volumes c.vsn.0 ≡ Some volume
   pub usable : volume.held ≡ None
@@ -40,28 +40,28 @@ pub record IsMoved (version : ℕ) (from to : Chunk) : Type 0 where
   pub sum : to.sum ≡ None
 
 -- bytes that were read of a chunk are its part of the content
-pub record ReadPart (contents : Numbered (List ℕ)) (b : ℕ) (c : Chunk) (bytes : List ℕ) : Type 0 where
+pub record ReadPart (contents : ByNumber (List ℕ)) (b : ℕ) (c : Chunk) (bytes : List ℕ) : Type 0 where
   pub whole : List ℕ
   pub content : map.get contents b ≡ Some whole
   pub len : length bytes ≡ c.len
   pub part : part_of whole c.offset c.len ≡ bytes
 
-abbrev pub ReadRight : Numbered (List ℕ) → ℕ → Chunk → Option (List ℕ) → Type 0
+abbrev pub ReadRight : ByNumber (List ℕ) → ℕ → Chunk → Option (List ℕ) → Type 0
 ReadRight contents b c None = Unit {0}
 ReadRight contents b c (Some bytes) = ReadPart contents b c bytes
 
 -- a zone that was written for a moved chunk is known where it stands, and has its length
-pub record TargetWritten (images : Named Image) (version : ℕ) (c : Chunk) (zone : List ℕ) : Type 0 where
+pub record TargetWritten (images : ByName Image) (version : ℕ) (c : Chunk) (zone : List ℕ) : Type 0 where
   pub len : length zone ≡ weight version c.len
   pub known : known_bytes (known_on images c.vsn.0) c.zone (length zone) ≡ Some zone
 
-abbrev pub WrittenRight : Named Image → ℕ → Chunk → Option (List ℕ) → Type 0
+abbrev pub WrittenRight : ByName Image → ℕ → Chunk → Option (List ℕ) → Type 0
 WrittenRight images version c None = Unit {0}
 WrittenRight images version c (Some zone) = TargetWritten images version c zone
 
 -- a move has its two mounts; what was read under the one is the chunk's part, and what was written under the other is known
-pub record MoveKept (contents : Numbered (List ℕ)) (volumes : Named VolumeRow) (tips : Named ℕ) (images : Named Image)
-    (mounts : Numbered MountState) (job : ℕ) (x : Moving) : Type 0 where
+pub record MoveKept (contents : ByNumber (List ℕ)) (volumes : ByName VolumeRow) (tips : ByName ℕ) (images : ByName Image)
+    (mounts : ByNumber MountState) (job : ℕ) (x : Moving) : Type 0 where
   pub source : MountState
   pub source_is : map.get mounts x.source ≡ Some source
   pub source_for : source.origin ≡ origin.Source job x.bfid x.from
@@ -75,8 +75,8 @@ pub record MoveKept (contents : Numbered (List ℕ)) (volumes : Named VolumeRow)
   pub written : WrittenRight images x.version x.to target.written
 
 -- what is kept of moves
-pub record MovesKept (contents : Numbered (List ℕ)) (volumes : Named VolumeRow) (tips : Named ℕ) (images : Named Image)
-    (mounts : Numbered MountState) (next : ℕ) (moves : Numbered Moving) : Type 0 where
+pub record MovesKept (contents : ByNumber (List ℕ)) (volumes : ByName VolumeRow) (tips : ByName ℕ) (images : ByName Image)
+    (mounts : ByNumber MountState) (next : ℕ) (moves : ByNumber Moving) : Type 0 where
   pub numbers : EachRow moves (λ n x. n < next)
   pub moving : EachRow moves (MoveKept contents volumes tips images mounts)
 
@@ -88,7 +88,7 @@ IsReadyAt now hold tip None = tip ≡ first_zone
 IsReadyAt now hold tip (Some since) = since.0 + hold ≤ now
 
 -- a reuse has its mount, and its volume was ready at the clock reading that began it
-pub record ReuseKept (hold now : ℕ) (volumes : Named VolumeRow) (tips : Named ℕ) (mounts : Numbered MountState) (m : ℕ) (x : Reusing) : Type 0 where
+pub record ReuseKept (hold now : ℕ) (volumes : ByName VolumeRow) (tips : ByName ℕ) (mounts : ByNumber MountState) (m : ℕ) (x : Reusing) : Type 0 where
   pub mount : MountState
   pub is : map.get mounts m ≡ Some mount
   pub same : mount.vsn ≡ x.vsn
@@ -102,5 +102,5 @@ pub record ReuseKept (hold now : ℕ) (volumes : Named VolumeRow) (tips : Named 
   pub ready : IsReadyAt (greater reading.0 now) hold (tip_in tips x.vsn.0 volume) volume.held
 
 -- what is kept of reuses
-abbrev pub ReusesKept : ℕ → ℕ → Named VolumeRow → Named ℕ → Numbered MountState → Numbered Reusing → Type 0
+abbrev pub ReusesKept : ℕ → ℕ → ByName VolumeRow → ByName ℕ → ByNumber MountState → ByNumber Reusing → Type 0
 ReusesKept hold now volumes tips mounts reuses = EachRow reuses (ReuseKept hold now volumes tips mounts)

@@ -9,7 +9,7 @@ use Rattle.dm_rules.specs.Label.{first_zone}
 use Rattle.dm_rules.specs.Version.{has_sum}
 use Rattle.dm_tables.specs.Rows.{EachRow}
 use Rattle.dm_durable.specs.declared.group.VolumeRow.{VolumeRow}
-use Rattle.dm_durable.specs.Tables.{Numbered, Named}
+use Rattle.dm_durable.specs.Tables.{ByNumber, ByName}
 use Rattle.dm_model.specs.declared.state.Image.{Image}
 use Rattle.dm_model.specs.declared.state.Moving.{Moving}
 use Rattle.dm_model.specs.declared.state.MountState.{MountState}
@@ -21,7 +21,7 @@ use Rattle.dm_invariant.specs.Places.{ChunkCovers, HasReserving, HasTarget}
 
 -- the chunk lies behind the label before the end of its volume, is known to be its part of the content, has a sum exactly
 -- where the volume's chunks do, which is right, and no zone in hand meets it
-pub record StillThere (contents : Numbered (List ℕ)) (images : Named Image) (reservations : Numbered Reserved) (moves : Numbered Moving)
+pub record StillThere (contents : ByNumber (List ℕ)) (images : ByName Image) (reservations : ByNumber Reserved) (moves : ByNumber Moving)
     (volume : VolumeRow) (b : ℕ) (c : Chunk) : Type 0 where
   pub behind : first_zone ≤ c.place
   pub within : c.place + c.len ≤ volume.end
@@ -34,13 +34,13 @@ pub record StillThere (contents : Numbered (List ℕ)) (images : Named Image) (r
   pub beside_targets : (job place : ℕ) → ChunkCovers c c.vsn.0 place → HasTarget moves job c.vsn.0 place → ⊥
 
 -- the chunk was a live one of its volume under this epoch
-pub record OnceLive (contents : Numbered (List ℕ)) (volumes : Named VolumeRow) (images : Named Image) (reservations : Numbered Reserved)
-    (moves : Numbered Moving) (epoch b : ℕ) (c : Chunk) : Type 0 where
+pub record OnceLive (contents : ByNumber (List ℕ)) (volumes : ByName VolumeRow) (images : ByName Image) (reservations : ByNumber Reserved)
+    (moves : ByNumber Moving) (epoch b : ℕ) (c : Chunk) : Type 0 where
   pub volume : VolumeRow
   pub is : map.get volumes c.vsn.0 ≡ Some volume
   pub still : volume.epoch ≡ epoch → StillThere contents images reservations moves volume b c
 
-abbrev pub MountOnce : Numbered (List ℕ) → Named VolumeRow → Named Image → Numbered Reserved → Numbered Moving → ℕ → Origin → Type 0
+abbrev pub MountOnce : ByNumber (List ℕ) → ByName VolumeRow → ByName Image → ByNumber Reserved → ByNumber Moving → ℕ → Origin → Type 0
 MountOnce contents volumes images reservations moves epoch (origin.New listed format) = Unit {0}
 MountOnce contents volumes images reservations moves epoch (origin.Piece b index p chunk) = Unit {0}
 MountOnce contents volumes images reservations moves epoch (origin.Chunk b c) = OnceLive contents volumes images reservations moves epoch b.0 c
@@ -49,6 +49,6 @@ MountOnce contents volumes images reservations moves epoch (origin.Target job b 
 MountOnce contents volumes images reservations moves epoch (origin.Reuse next_epoch version reading) = Unit {0}
 
 -- what is kept of the chunks under mounts
-abbrev pub OnceKept : Numbered (List ℕ) → Named VolumeRow → Named Image → Numbered Reserved → Numbered Moving → Numbered MountState → Type 0
+abbrev pub OnceKept : ByNumber (List ℕ) → ByName VolumeRow → ByName Image → ByNumber Reserved → ByNumber Moving → ByNumber MountState → Type 0
 OnceKept contents volumes images reservations moves mounts =
     EachRow mounts (λ m x. MountOnce contents volumes images reservations moves x.epoch x.origin)

@@ -2,7 +2,7 @@
 use Rattle.std.specs.Prelude.{◌≡◌, false, None, IsSome}
 use Rattle.std.specs.FinMap as map
 use Rattle.dm_tables.specs.Rows.{EachRow}
-use Rattle.dm_durable.specs.Tables.{Numbered}
+use Rattle.dm_durable.specs.Tables.{ByNumber}
 use Rattle.dm_durable.specs.Entries.{groups_asked}
 use Rattle.dm_durable.specs.Inodes.{has_making}
 use Rattle.dm_model.specs.declared.state.Joint.{Joint}
@@ -17,14 +17,14 @@ use Rattle.dm_invariant.specs.Volumes.{ImagesFit, IsNumberOf}
 
 -- each group that an entry asks is configured, and the tables of each group have its number. That files and dumps fit under
 -- the cap, and that volumes are those of the configuration, is of files and volumes
-pub record Fits (j : Joint) : Type 0 where
+pub record IsAsConfigured (j : Joint) : Type 0 where
   pub entries : EachRow j.daemon.tables.entries (λ b e. AllConfigured j.sides (groups_asked e))
   pub sides : EachRow j.sides (λ g s. IsNumberOf g s.group.tables.group.0)
 
 -- ---- what is lost as the program stops, and what the past shows
 
 -- a group has nothing open; what it ever committed is what it has, and it was told to delete nothing
-pub record SideOpened (committed deleted : Numbered (Unit {0})) (s : Side) : Type 0 where
+pub record SideOpened (committed deleted : ByNumber (Unit {0})) (s : Side) : Type 0 where
   pub reservations : s.group.reservations ≡ map.empty
   pub group_mounts : s.group.mounts ≡ map.empty
   pub moves : s.group.moves ≡ map.empty
@@ -41,7 +41,7 @@ pub record SideOpened (committed deleted : Numbered (Unit {0})) (s : Side) : Typ
 
 pub record Opened (j : Joint) : Type 0 where
   pub sound : Sound j
-  pub fits : Fits j
+  pub fits : IsAsConfigured j
   pub requests : j.daemon.requests ≡ map.empty
   pub doubt : j.daemon.doubt ≡ None
   pub workers : j.workers ≡ map.empty

@@ -13,7 +13,7 @@ use Rattle.dm_durable.specs.declared.group.BitfileRow.{BitfileRow}
 use Rattle.dm_durable.specs.declared.group.GroupRecord.{GroupRecord}
 use Rattle.dm_durable.specs.declared.group.GroupStep.{GroupStep}
 use Rattle.dm_durable.specs.declared.group.GroupStep.TheVariants.{Volume, Commit, Delete, Move, Free, Reuse}
-use Rattle.dm_durable.specs.Tables.{Numbered}
+use Rattle.dm_durable.specs.Tables.{ByNumber}
 use Rattle.dm_model.specs.declared.state.Moving.{Moving}
 use Rattle.dm_model.specs.declared.state.Reserved.{Reserved}
 use Rattle.dm_invariant.specs.Among.{IsAmong}
@@ -59,7 +59,7 @@ pub data Owner : Type 0 where
   Target : (job : ℕ) → Owner
   Doubted : (zone : ℕ) → Owner
 
-pub record HasLive (bitfiles : Numbered BitfileRow) (b offset : ℕ) (vsn : List ℕ) (place : ℕ) : Type 0 where
+pub record HasLive (bitfiles : ByNumber BitfileRow) (b offset : ℕ) (vsn : List ℕ) (place : ℕ) : Type 0 where
   pub row : BitfileRow
   pub is : map.get bitfiles b ≡ Some row
   pub chunk : Chunk
@@ -67,7 +67,7 @@ pub record HasLive (bitfiles : Numbered BitfileRow) (b offset : ℕ) (vsn : List
   pub at : chunk.offset ≡ offset
   pub covers : ChunkCovers chunk vsn place
 
-pub record HasReserving (reservations : Numbered Reserved) (n offset : ℕ) (vsn : List ℕ) (place : ℕ) : Type 0 where
+pub record HasReserving (reservations : ByNumber Reserved) (n offset : ℕ) (vsn : List ℕ) (place : ℕ) : Type 0 where
   pub reserved : Reserved
   pub is : map.get reservations n ≡ Some reserved
   pub piece : Piece
@@ -75,7 +75,7 @@ pub record HasReserving (reservations : Numbered Reserved) (n offset : ℕ) (vsn
   pub at : piece.offset ≡ offset
   pub covers : PieceCovers reserved.chunk piece vsn place
 
-pub record HasTarget (moves : Numbered Moving) (job : ℕ) (vsn : List ℕ) (place : ℕ) : Type 0 where
+pub record HasTarget (moves : ByNumber Moving) (job : ℕ) (vsn : List ℕ) (place : ℕ) : Type 0 where
   pub moving : Moving
   pub is : map.get moves job ≡ Some moving
   pub covers : TargetCovers moving.version moving.to vsn place
@@ -100,13 +100,13 @@ pub record HasDoubted (doubt : Option GroupRecord) (zone : ℕ) (vsn : List ℕ)
   pub at : chunk.zone ≡ zone
   pub covers : ZoneCovers chunk vsn place
 
-abbrev pub HasPlace : Numbered BitfileRow → Numbered Reserved → Numbered Moving → Option GroupRecord → Owner → List ℕ → ℕ → Type 0
+abbrev pub HasPlace : ByNumber BitfileRow → ByNumber Reserved → ByNumber Moving → Option GroupRecord → Owner → List ℕ → ℕ → Type 0
 HasPlace bitfiles reservations moves doubt (Live b offset) vsn place = HasLive bitfiles b offset vsn place
 HasPlace bitfiles reservations moves doubt (Reserving n offset) vsn place = HasReserving reservations n offset vsn place
 HasPlace bitfiles reservations moves doubt (Target job) vsn place = HasTarget moves job vsn place
 HasPlace bitfiles reservations moves doubt (Doubted zone) vsn place = HasDoubted doubt zone vsn place
 
 -- no place is of two: neither of two chunks, nor of a chunk and a zone in hand, nor of two zones in hand
-abbrev pub PlacesKept : Numbered BitfileRow → Numbered Reserved → Numbered Moving → Option GroupRecord → Type 0
+abbrev pub PlacesKept : ByNumber BitfileRow → ByNumber Reserved → ByNumber Moving → Option GroupRecord → Type 0
 PlacesKept bitfiles reservations moves doubt =
     (o p : Owner) (vsn : List ℕ) (place : ℕ) → HasPlace bitfiles reservations moves doubt o vsn place → HasPlace bitfiles reservations moves doubt p vsn place → o ≡ p

@@ -7,7 +7,7 @@ use Rattle.dm_durable.specs.declared.daemon.Contents.{Contents}
 use Rattle.dm_durable.specs.declared.daemon.Contents.TheVariants.{Regular, Making, Dual, Offline}
 use Rattle.dm_durable.specs.declared.daemon.Entry.{Entry}
 use Rattle.dm_durable.specs.declared.daemon.Inode.{Inode}
-use Rattle.dm_durable.specs.Tables.{Numbered}
+use Rattle.dm_durable.specs.Tables.{ByNumber}
 use Rattle.dm_durable.specs.Entries.{is_stored}
 use Rattle.dm_model.specs.declared.state.OpenRequest.{OpenRequest}
 use Rattle.dm_model.specs.declared.state.Recall.{Recall}
@@ -18,14 +18,14 @@ use Rattle.dm_model.specs.GroupCalls.{part_of}
 -- ---- requests
 
 -- the entry of an open request is there and is not being dropped; that of a recall has every copy stored
-pub record RequestEntry (entries : Numbered Entry) (r : OpenRequest) : Type 0 where
+pub record RequestEntry (entries : ByNumber Entry) (r : OpenRequest) : Type 0 where
   pub entry : Entry
   pub is : map.get entries r.bfid.0 ≡ Some entry
   pub lasting : entry.dropping ≡ false
   pub whole : is_recall r.kind ≡ true → is_stored entry ≡ true
 
 -- a put of the bitfile is open
-pub record PutOpen (requests : Numbered OpenRequest) (b : ℕ) : Type 0 where
+pub record PutOpen (requests : ByNumber OpenRequest) (b : ℕ) : Type 0 where
   pub number : ℕ
   pub request : OpenRequest
   pub is : map.get requests number ≡ Some request
@@ -33,7 +33,7 @@ pub record PutOpen (requests : Numbered OpenRequest) (b : ℕ) : Type 0 where
   pub same : request.bfid.0 ≡ b
 
 -- the put of a file that was not changed since: its inode is still being made into this bitfile
-pub record LivePut (inodes : Numbered Inode) (n was : ℕ) (b : Bfid) : Type 0 where
+pub record LivePut (inodes : ByNumber Inode) (n was : ℕ) (b : Bfid) : Type 0 where
   pub bytes : List ℕ
   pub is : map.get inodes n ≡ Some (record { change = was; contents = Making bytes b })
 
@@ -45,21 +45,21 @@ IsStoredAs (Dual bytes c) b = c ≡ b
 IsStoredAs (Offline len c) b = c ≡ b
 
 -- the recall of a file that was not changed since
-pub record LiveRecall (inodes : Numbered Inode) (n was : ℕ) (b : Bfid) : Type 0 where
+pub record LiveRecall (inodes : ByNumber Inode) (n was : ℕ) (b : Bfid) : Type 0 where
   pub inode : Inode
   pub is : map.get inodes n ≡ Some inode
   pub change : inode.change ≡ was
   pub form : IsStoredAs inode.contents b
 
 -- the content of a request's bitfile has the entry's length
-pub record RequestContent (entries : Numbered Entry) (contents : Numbered (List ℕ)) (b : ℕ) : Type 0 where
+pub record RequestContent (entries : ByNumber Entry) (contents : ByNumber (List ℕ)) (b : ℕ) : Type 0 where
   pub bytes : List ℕ
   pub is : map.get contents b ≡ Some bytes
   pub len : (e : Entry) → map.get entries b ≡ Some e → e.len ≡ length bytes
 
 -- what is kept of requests
-pub record RequestsKept (requests : Numbered OpenRequest) (next : ℕ) (inodes : Numbered Inode) (entries : Numbered Entry)
-    (contents : Numbered (List ℕ)) : Type 0 where
+pub record RequestsKept (requests : ByNumber OpenRequest) (next : ℕ) (inodes : ByNumber Inode) (entries : ByNumber Entry)
+    (contents : ByNumber (List ℕ)) : Type 0 where
   pub numbers : EachRow requests (λ k r. k < next)
   pub entry : EachRow requests (λ k r. RequestEntry entries r)
   pub content : EachRow requests (λ k r. RequestContent entries contents r.bfid.0)
@@ -78,7 +78,7 @@ pub record PartAt (whole : List ℕ) (offset : ℕ) (bytes : List ℕ) : Type 0 
 
 -- the recall of a worker is an open request; it asks the groups that the entry asks, and each of its reads is a part of
 -- the content
-pub record RecallKept (requests : Numbered OpenRequest) (entries : Numbered Entry) (contents : Numbered (List ℕ)) (k : ℕ)
+pub record RecallKept (requests : ByNumber OpenRequest) (entries : ByNumber Entry) (contents : ByNumber (List ℕ)) (k : ℕ)
     (recall : Recall) : Type 0 where
   pub request : OpenRequest
   pub is : map.get requests k ≡ Some request
@@ -91,8 +91,8 @@ pub record RecallKept (requests : Numbered OpenRequest) (entries : Numbered Entr
   pub reads : EachRow recall.reads (λ g parts. EachRow parts (λ offset part. PartAt bytes offset part))
 
 -- what is kept of recalls
-pub record RecallsKept (workers : Numbered Worker) (requests : Numbered OpenRequest) (entries : Numbered Entry)
-    (contents : Numbered (List ℕ)) : Type 0 where
+pub record RecallsKept (workers : ByNumber Worker) (requests : ByNumber OpenRequest) (entries : ByNumber Entry)
+    (contents : ByNumber (List ℕ)) : Type 0 where
   pub kept : EachRow workers (λ w x. EachRow x.recalls (λ k recall. RecallKept requests entries contents k recall))
   -- a recall is of one worker
   pub apart : (v w k : ℕ) (x y : Worker) (r s : Recall) → map.get workers v ≡ Some x → map.get workers w ≡ Some y → map.get x.recalls k ≡ Some r

@@ -6,7 +6,7 @@ use Rattle.std.specs.Prelude.{◌≡◌, ℕ, true, Some, IsSome, List, length}
 use Rattle.std.specs.FinMap as map
 use Rattle.dm_tables.specs.Rows.{EachRow}
 use Rattle.dm_durable.specs.declared.daemon.Entry.{Entry}
-use Rattle.dm_durable.specs.Tables.{Numbered}
+use Rattle.dm_durable.specs.Tables.{ByNumber}
 use Rattle.dm_durable.specs.Entries.{asks}
 use Rattle.dm_model.specs.declared.state.Daemon.{Daemon}
 use Rattle.dm_model.specs.declared.state.History.{History}
@@ -66,14 +66,14 @@ pub record Sound (j : Joint) : Type 0 where
 -- ---- copies, which follows from it
 
 -- the copy that a group has of a bitfile is the content, which has the length of the entry
-pub record CopyRight (contents : Numbered (List ℕ)) (s : Side) (b : ℕ) (e : Entry) : Type 0 where
+pub record CopyRight (contents : ByNumber (List ℕ)) (s : Side) (b : ℕ) (e : Entry) : Type 0 where
   pub bytes : List ℕ
   pub copy : assembled_bytes s b ≡ Some bytes
   pub content : map.get contents b ≡ Some bytes
   pub len : length bytes ≡ e.len
 
 -- so it is where the group was asked and has the bitfile, also of an entry that is being dropped
-abbrev pub CopySound : Numbered (List ℕ) → ℕ → Side → ℕ → Entry → Type 0
+abbrev pub CopySound : ByNumber (List ℕ) → ℕ → Side → ℕ → Entry → Type 0
 CopySound contents g s b e = asks e g ≡ true → IsSome (map.get s.group.tables.bitfiles b) → CopyRight contents s b e
 
 -- of each entry and each group

@@ -3,7 +3,7 @@ use Rattle.std.specs.Prelude.{ℕ, Option, None, Some, List, [], ◌∷◌}
 use Rattle.std.specs.FinMap as map
 use Rattle.dm_base.specs.declared.identifier.GroupId.{GroupId}
 use Rattle.dm_tables.specs.Rows.{map_values, passes}
-use Rattle.dm_durable.specs.Tables.{Numbered, Named}
+use Rattle.dm_durable.specs.Tables.{ByNumber, ByName}
 use Rattle.dm_durable.specs.declared.daemon.Contents.{Contents}
 use Rattle.dm_durable.specs.declared.daemon.Contents.TheVariants.{Regular, Making, Dual, Offline}
 use Rattle.dm_durable.specs.declared.daemon.Dump.{Dump}
@@ -24,7 +24,7 @@ copy_or (Some bytes) = bytes
 
 -- what the first asked copy of a bitfile assembles to. In a sound state that fits the configuration the copy of an offline
 -- file, and of what a young dump names, is always there
-abbrev pub first_copy : Numbered Side → ℕ → List GroupId → List ℕ
+abbrev pub first_copy : ByNumber Side → ℕ → List GroupId → List ℕ
 first_copy sides b [] = []
 first_copy sides b (g ∷ gs) = copy_or (assembled_bytes_in (map.get sides g.0) b)
 
@@ -51,7 +51,7 @@ abbrev pub dump_of : Joint → Dump → PlainDump
 dump_of j d = record { made = d.made.0; least = d.least; files = map_values (λ path f. dumped_bytes j f) d.files }
 
 -- the dumps that are young at a time
-abbrev pub young_dumps : ℕ → Named Dump → Named Dump
+abbrev pub young_dumps : ℕ → ByName Dump → ByName Dump
 young_dumps now dumps = map.retain_keys dumps (λ name. passes (λ k d. is_young now d) name (map.get dumps name))
 
 -- the files of a joint state, its young dumps, its time and its age

@@ -10,7 +10,7 @@ use Rattle.dm_rules.specs.Version.{IsVersion}
 use Rattle.dm_tables.specs.Rows.{EachRow}
 use Rattle.dm_durable.specs.declared.group.VolumeRow.{VolumeRow}
 use Rattle.dm_durable.specs.Limits.{IsVolumeSize, IsGroupNumber, IsPast}
-use Rattle.dm_durable.specs.Tables.{Named}
+use Rattle.dm_durable.specs.Tables.{ByName}
 use Rattle.dm_durable.specs.Volumes.{is_listed, tip_in}
 use Rattle.dm_model.specs.declared.state.Image.{Image}
 use Rattle.dm_invariant.specs.Among.{IsAmong}
@@ -36,7 +36,7 @@ IsOfConf conf vsn = is_listed conf.volumes vsn ≡ true
 
 -- a volume of the tables is one of the configuration's; its numbers are within their limits; and its label, end, tip and
 -- size follow one another
-pub record VolumeKept (conf : GroupConf) (tips : Named ℕ) (now : ℕ) (vsn : List ℕ) (v : VolumeRow) : Type 0 where
+pub record VolumeKept (conf : GroupConf) (tips : ByName ℕ) (now : ℕ) (vsn : List ℕ) (v : VolumeRow) : Type 0 where
   pub configured : IsOfConf conf vsn
   pub size : v.size ≡ conf.size
   pub slot : v.slot < volumes_limit
@@ -50,7 +50,7 @@ pub record VolumeKept (conf : GroupConf) (tips : Named ℕ) (now : ℕ) (vsn : L
   pub freed : IsPast now v.held
 
 -- what is kept of volumes: no two have one slot
-pub record VolumesKept (conf : GroupConf) (now : ℕ) (volumes : Named VolumeRow) (tips : Named ℕ) : Type 0 where
+pub record VolumesKept (conf : GroupConf) (now : ℕ) (volumes : ByName VolumeRow) (tips : ByName ℕ) : Type 0 where
   pub fits : ConfFits conf
   pub volume : EachRow volumes (VolumeKept conf tips now)
   pub slots : (v w : List ℕ) (x y : VolumeRow) → map.get volumes v ≡ Some x → map.get volumes w ≡ Some y → x.slot ≡ y.slot → v ≡ w
@@ -58,11 +58,11 @@ pub record VolumesKept (conf : GroupConf) (now : ℕ) (volumes : Named VolumeRow
 -- ---- images
 
 -- a volume has an image of this size
-pub record HasImage (images : Named Image) (vsn : List ℕ) (size : ℕ) : Type 0 where
+pub record HasImage (images : ByName Image) (vsn : List ℕ) (size : ℕ) : Type 0 where
   pub image : Image
   pub is : map.get images vsn ≡ Some image
   pub sized : image.size ≡ size
 
 -- each volume of the configuration has an image of the size that it is to have. A volume of the tables is one of these
-abbrev pub ImagesFit : GroupConf → Named Image → Type 0
+abbrev pub ImagesFit : GroupConf → ByName Image → Type 0
 ImagesFit conf images = (vsn : List ℕ) → IsOfConf conf vsn → HasImage images vsn conf.size

@@ -15,7 +15,7 @@ use Rattle.dm_tables.proofs.Any.{any-false}
 use Rattle.dm_tables.proofs.Entries.{first, second, less, entries-each}
 use Rattle.dm_tables.proofs.Orders.{numbers}
 use Rattle.dm_tables.proofs.Rows.{one_row}
-use Rattle.dm_durable.specs.Tables.{Numbered}
+use Rattle.dm_durable.specs.Tables.{ByNumber}
 use Rattle.dm_durable.specs.DaemonConditions.{MayBeTaken, AscendsFrom}
 use Rattle.dm_durable.specs.Entries.{asks, groups_asked, is_due}
 use Rattle.dm_durable.specs.declared.daemon.DaemonStep.TheVariants.{HardDelete, Dropped}
@@ -89,7 +89,7 @@ of_among : (P : Bfid → Type 0) (bs : List Bfid) → AllByRecursion P bs → (b
 of_among P [] each b among = absurd among
 of_among P (c ∷ cs) each b among = elim among [ inl same ↦ subst P (sym same) each.0 | inr after ↦ of_among P cs each.1 b after ]
 
-no_request : (requests : Numbered OpenRequest) (b : ℕ) → has_open_request requests b ≡ false → NoRequestOf requests b
+no_request : (requests : ByNumber OpenRequest) (b : ℕ) → has_open_request requests b ≡ false → NoRequestOf requests b
 no_request requests b none = λ k r is same.
     let fails = any-false numbers (λ k r. nat_eq r.bfid.0 b) requests none k r is in
     let holds = eq-eqb _ _ same in
@@ -145,7 +145,7 @@ was_told j b e all g asked =
 module _ (j : Joint) (kept : InvariantHolds j) (b : ℕ) (e : Entry) (is : map.get j.daemon.tables.entries b ≡ Some e)
     (told : (g : ℕ) → asks e g ≡ true → IsSome (map.get (deleted_in (map.get j.history.groups g)) b))
     (g : ℕ) (s : Side) (at : map.get j.sides g ≡ Some s) where
-  abbrev deleted : Numbered (Unit {0})
+  abbrev deleted : ByNumber (Unit {0})
   deleted = deleted_in (map.get j.history.groups g)
 
   -- an entry of the bitfile that asks the group was told

@@ -4,7 +4,7 @@ use Rattle.std.specs.FinMap as map
 use Rattle.std.proofs.lemmas.Bool.{not-false, leb-false, ltb-false, ltb-true, lt-ltb}
 use Rattle.dm_tables.proofs.Orders.{numbers, paths}
 use Rattle.dm_tables.proofs.Sums.{total-insert}
-use Rattle.dm_durable.specs.Tables.{Numbered}
+use Rattle.dm_durable.specs.Tables.{ByNumber}
 use Rattle.dm_durable.specs.Daemon.{size_of, after_restore}
 use Rattle.dm_durable.specs.DaemonConditions.{IsThere}
 use Rattle.dm_durable.specs.Dumps.{as_restored, dump_size, file_in, is_young, length_dumped, new_dump}
@@ -67,7 +67,7 @@ young_before : (now later : ℕ) (d : DumpRow) → now ≤ later → is_young la
 young_before now later d on young = let y = ltb-true _ _ young in lt-ltb _ _ (omega (arith, y, on))
 
 -- the bytes of a file of a young dump are there
-file_there : (entries : Numbered Entry) (made : ℕ) (file : DumpInode) → DumpedRightly entries made file → IsThere entries file
+file_there : (entries : ByNumber Entry) (made : ℕ) (file : DumpInode) → DumpedRightly entries made file → IsThere entries file
 file_there entries made (KeptFile bytes) k = tt
 file_there entries made (NamedFile len b) k = record { entry = k.entry; is = k.is; complete = k.complete }
 

@@ -7,7 +7,7 @@ use Rattle.dm_base.specs.declared.identifier.GroupId.{GroupId}
 use Rattle.dm_tables.specs.Rows.{EachRow}
 use Rattle.dm_tables.proofs.Orders.{numbers}
 use Rattle.dm_tables.proofs.Rows.{one_row, removed}
-use Rattle.dm_durable.specs.Tables.{Numbered}
+use Rattle.dm_durable.specs.Tables.{ByNumber}
 use Rattle.dm_durable.specs.Limits.{IsGroupNumber, AreGroups}
 use Rattle.dm_durable.specs.Daemon.{bfid_of}
 use Rattle.dm_durable.specs.DaemonConditions.{OneOrTwo, MayStore, MayEndPut, MayRelease}
@@ -41,7 +41,7 @@ one_or_two (g ∷ []) e = tt
 one_or_two (g ∷ h ∷ []) e = not-true (nat_eq g.0 h.0) e
 one_or_two (g ∷ h ∷ i ∷ rest) e = cc
 
-all_configured : (sides : Numbered Side) (groups : List GroupId) → are_configured sides groups ≡ true → AllConfigured sides groups
+all_configured : (sides : ByNumber Side) (groups : List GroupId) → are_configured sides groups ≡ true → AllConfigured sides groups
 all_configured sides [] e g among = absurd among
 all_configured sides (h ∷ rest) e g among =
     let parts = and_parts (is_some (map.get sides h.0)) (are_configured sides rest) e in
@@ -51,7 +51,7 @@ all_configured sides (h ∷ rest) e g among =
     ]
 
 -- configured groups have numbers within their limits
-all_numbered : (sides : Numbered Side) → EachRow sides (λ g s. IsGroupNumber g) → (groups : List GroupId) → AllConfigured sides groups → AreGroups groups
+all_numbered : (sides : ByNumber Side) → EachRow sides (λ g s. IsGroupNumber g) → (groups : List GroupId) → AllConfigured sides groups → AreGroups groups
 all_numbered sides each [] all = tt
 all_numbered sides each (g ∷ rest) all =
     let s = value_of (map.get sides g.0) (all g (inl refl)) in
@@ -148,7 +148,7 @@ no_other_put j k r kept at is put =
     left.0 (sym (kept.requests.puts_apart k put.number r put.request at left.1 is put.put (sym put.same)))
 
 -- its request is spent first
-pub end_put_lands : (j : Joint) → InvariantHolds j → (sides : Numbered Side) (k now : ℕ) (r : OpenRequest) → map.get j.daemon.requests k ≡ Some r
+pub end_put_lands : (j : Joint) → InvariantHolds j → (sides : ByNumber Side) (k now : ℕ) (r : OpenRequest) → map.get j.daemon.requests k ≡ Some r
     → AllHold (guards_always (end_put j.daemon k now (Some r)) (end_put_needs j.sides (Some r)))
     → NoneHold (end_put j.daemon k now (Some r)).refusals
     → LandsBeside (map.remove j.daemon.requests k) sides j now

@@ -14,7 +14,7 @@ use Rattle.dm_tables.specs.Rows.{EachRow}
 use Rattle.dm_tables.proofs.Entries.{entries-each}
 use Rattle.dm_tables.proofs.Orders.{numbers}
 use Rattle.dm_tables.proofs.Rows.{one_row, each-empty}
-use Rattle.dm_durable.specs.Tables.{Numbered, same_text}
+use Rattle.dm_durable.specs.Tables.{ByNumber, same_text}
 use Rattle.dm_durable.specs.DaemonConditions.{MayTake}
 use Rattle.dm_durable.specs.Inodes.{bitfile_of}
 use Rattle.dm_durable.specs.declared.daemon.Contents.TheVariants.{Offline}
@@ -44,8 +44,8 @@ use Rattle.dm_landing.proofs.CallFiles.{unchanged, contents_there, LandsBeside}
 -- ---- what was read
 
 -- the reads of a group that are there are parts of the whole, and so are those of one of which there is none
-reads_kept : (whole : List ℕ) (r : Option (Numbered (List ℕ)))
-    → ((parts : Numbered (List ℕ)) → r ≡ Some parts → EachRow parts (λ at part. PartAt whole at part))
+reads_kept : (whole : List ℕ) (r : Option (ByNumber (List ℕ)))
+    → ((parts : ByNumber (List ℕ)) → r ≡ Some parts → EachRow parts (λ at part. PartAt whole at part))
     → EachRow (reads_or r) (λ at part. PartAt whole at part)
 reads_kept whole None each = each-empty _ _
 reads_kept whole (Some parts) each = each parts refl
@@ -78,18 +78,18 @@ read_whole whole bytes recall len reads test =
     let both = and_parts (nat_eq (length bytes) recall.len) _ test in
     let size = eqb-true (length bytes) recall.len both.0 in
     let from = passing (λ (g : GroupId). joins 0 (map.entries (reads_or (map.get recall.reads g.0))) bytes) recall.asked both.1 in
-    let parts : Numbered (List ℕ) = reads_or (map.get recall.reads from.0.0) in
+    let parts : ByNumber (List ℕ) = reads_or (map.get recall.reads from.0.0) in
     let each = entries-each numbers (λ at part. PartAt whole at part) parts (reads_kept whole (map.get recall.reads from.0.0) (reads from.0.0)) in
     joined_part whole 0 (map.entries parts) bytes from.2 each (omega arith)
 
 -- the recall that a worker has under a number
-record RecallThere (workers : Numbered Worker) (w k : ℕ) : Type 0 where
+record RecallThere (workers : ByNumber Worker) (w k : ℕ) : Type 0 where
   pub worker : Worker
   pub there : map.get workers w ≡ Some worker
   pub recall : Recall
   pub has : map.get worker.recalls k ≡ Some recall
 
-recall_there : (workers : Numbered Worker) (w k : ℕ) (o : Option Worker)
+recall_there : (workers : ByNumber Worker) (w k : ℕ) (o : Option Worker)
     → map.get workers w ≡ o → is_some (recall_in o k) ≡ true → RecallThere workers w k
 recall_there workers w k None at is = cc
 recall_there workers w k (Some x) at is =
@@ -99,7 +99,7 @@ recall_there workers w k (Some x) at is =
 -- ---- what is taken
 
 -- the content of a bitfile that every group has stored is known, with its entry's length
-pub record ContentThere (contents : Numbered (List ℕ)) (b len : ℕ) : Type 0 where
+pub record ContentThere (contents : ByNumber (List ℕ)) (b len : ℕ) : Type 0 where
   pub bytes : List ℕ
   pub is : map.get contents b ≡ Some bytes
   pub sized : length bytes ≡ len
@@ -122,7 +122,7 @@ was_content j w k r bytes kept at found test =
     ap (λ b. map.get j.history.contents b.0) bitfile ∙ recall.content ∙ ap (λ x. Some x) (sym same)
 
 -- what is taken, of an inode that is away
-record TakesRightly (t : DaemonTables) (contents : Numbered (List ℕ)) (n : ℕ) (bytes : List ℕ) : Type 0 where
+record TakesRightly (t : DaemonTables) (contents : ByNumber (List ℕ)) (n : ℕ) (bytes : List ℕ) : Type 0 where
   pub may : MayTake t n bytes
   pub right : TakenRight t.inodes contents n bytes
 
@@ -155,7 +155,7 @@ taken_rightly j w k r bytes len b kept at is found test none here =
 -- ---- a recall ends
 
 -- what it takes, of an inode that is away: its request is spent first
-pub end_recall_lands : (j : Joint) → InvariantHolds j → (requests : Numbered OpenRequest) (sides : Numbered Side) (w k : ℕ) (bytes : List ℕ) (now : ℕ)
+pub end_recall_lands : (j : Joint) → InvariantHolds j → (requests : ByNumber OpenRequest) (sides : ByNumber Side) (w k : ℕ) (bytes : List ℕ) (now : ℕ)
     (r : OpenRequest) (len : ℕ) (b : Bfid) → map.get j.daemon.requests k ≡ Some r
     → contents_of (map.get j.daemon.tables.inodes r.ino.0) ≡ Offline len b
     → AllHold (guards_always (end_recall j.daemon k bytes now (Some r)) (end_recall_needs (map.get j.workers w) k bytes))

@@ -5,7 +5,7 @@ use Rattle.dm_durable.specs.declared.daemon.DaemonRecord.{DaemonRecord}
 use Rattle.dm_durable.specs.declared.daemon.DaemonStep.{DaemonStep}
 use Rattle.dm_durable.specs.declared.daemon.DaemonStep.TheVariants.{Write, Remove, BeginPut, Stored, EndPut, Release, Taken, Dump, Undump, Restore, HardDelete, Dropped, Restart, Age}
 use Rattle.dm_durable.specs.declared.daemon.DaemonTables.{DaemonTables}
-use Rattle.dm_durable.specs.Tables.{Numbered}
+use Rattle.dm_durable.specs.Tables.{ByNumber}
 use Rattle.dm_durable.specs.Daemon.{after_begin_put, after_begin_put_at, after_record, after_release, after_remove, after_restore, after_step}
 use Rattle.dm_durable.specs.Dumps.{file_in}
 use Rattle.dm_durable.specs.declared.daemon.DumpInode.{DumpInode}
@@ -123,7 +123,7 @@ module _ (j : Joint) (r : DaemonRecord) (k : InvariantHolds j)
         (step_goes j.daemon.tables j.history.contents j.daemon.cap j.sides j.daemon.requests r.time.0 k.files may.follow.time r.step may.follow.step may.needs)
         k.configured;
     sides = λ g s is.
-        subst (λ (groups : Numbered GroupHistory). SideKept New.entries NewHistory.contents NewHistory.taken (requests_after_step j.daemon r.step) g
+        subst (λ (groups : ByNumber GroupHistory). SideKept New.entries NewHistory.contents NewHistory.taken (requests_after_step j.daemon r.step) g
         (committed_in (map.get groups g)) (deleted_in (map.get groups g)) s) (sym (groups_same j.daemon j.history r.step)) (side_later g s is);
     doubt =
         subst (λ o. MayLandIf New (requests_after_step j.daemon r.step) NewHistory.contents j.daemon.cap j.sides o) (sym settled) tt;

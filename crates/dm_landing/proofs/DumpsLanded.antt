@@ -17,7 +17,7 @@ use Rattle.dm_durable.specs.declared.daemon.DaemonStep.TheVariants.{Write, Remov
 use Rattle.dm_durable.specs.declared.daemon.DaemonTables.{DaemonTables}
 use Rattle.dm_durable.specs.declared.daemon.DumpInode.{DumpInode}
 use Rattle.dm_durable.specs.declared.daemon.Inode.{Inode}
-use Rattle.dm_durable.specs.Tables.{Numbered}
+use Rattle.dm_durable.specs.Tables.{ByNumber}
 use Rattle.dm_durable.specs.Dumps.{file_dumped, file_dumped_if, is_young, new_dump, with_least}
 use Rattle.dm_durable.specs.Daemon.{after_begin_put, after_begin_put_at, after_record, after_release, after_remove, after_restore, after_step}
 use Rattle.dm_durable.specs.DaemonConditions.{MayStep}
@@ -31,7 +31,7 @@ use Rattle.dm_landing.proofs.EntriesLanded.{step_goes}
 use Rattle.dm_landing.proofs.FatesFiles.{dumps_go}
 use Rattle.dm_landing.proofs.FilesWith.{NamedIn}
 
-module _ (d : Daemon) (h : History) (sides : Numbered Side) (time : ℕ) (k : FilesKept d.tables h.contents d.cap)
+module _ (d : Daemon) (h : History) (sides : ByNumber Side) (time : ℕ) (k : FilesKept d.tables h.contents d.cap)
     (on : d.tables.time.0 ≤ time) (dumps : DumpsKept d.tables.time.0 d.tables.entries d.tables.dumps) where
   abbrev t : DaemonTables
   t = d.tables
@@ -144,7 +144,7 @@ module _ (d : Daemon) (h : History) (sides : Numbered Side) (time : ℕ) (k : Fi
   dumps_step (Age age) may needs = with_age age (same_dumps (Age age) may needs)
 
 -- dumps are kept by a record that may land
-pub dumps_landed : (d : Daemon) (h : History) (sides : Numbered Side) (r : DaemonRecord) → FilesKept d.tables h.contents d.cap
+pub dumps_landed : (d : Daemon) (h : History) (sides : ByNumber Side) (r : DaemonRecord) → FilesKept d.tables h.contents d.cap
     → MayLand d.tables d.requests h.contents d.cap sides r → DumpsKept d.tables.time.0 d.tables.entries d.tables.dumps
     → DumpsKept r.time.0 (after_record d.tables r).entries (after_record d.tables r).dumps
 dumps_landed d h sides r k may dumps = dumps_step d h sides r.time.0 k may.follow.time dumps r.step may.follow.step may.needs

@@ -11,7 +11,7 @@ use Rattle.dm_tables.proofs.Adjusted.{adjusted, adjusted_row, adjusted-beside, g
 use Rattle.dm_durable.specs.declared.daemon.DaemonTables.{DaemonTables}
 use Rattle.dm_durable.specs.declared.daemon.Entry.{Entry}
 use Rattle.dm_durable.specs.declared.daemon.Inode.{Inode}
-use Rattle.dm_durable.specs.Tables.{Numbered}
+use Rattle.dm_durable.specs.Tables.{ByNumber}
 use Rattle.dm_durable.specs.Inodes.{is_named}
 use Rattle.dm_durable.specs.Entries.{after_letting_go_if, has_stored, groups_asked, is_due, with_copy_of, without_deletion_time, as_dropping}
 use Rattle.dm_durable.specs.Daemon.{bfid_of, with_dropping, with_named}
@@ -28,7 +28,7 @@ use Rattle.dm_invariant.proofs.Options.{same_row}
 use Rattle.dm_landing.proofs.Fates.{Fate, Stays, LetGo, Stored, Restored, Taken, Dropped, EntriesGo}
 
 -- the entry of a bitfile that is new
-pub record FreshEntry (site next now : ℕ) (contents : Numbered (List ℕ)) (sides : Numbered Side) (b : ℕ) (f : Entry) : Type 0 where
+pub record FreshEntry (site next now : ℕ) (contents : ByNumber (List ℕ)) (sides : ByNumber Side) (b : ℕ) (f : Entry) : Type 0 where
   pub is_next : b ≡ bfid_of site next
   pub may : MayBeEntry site (next + 1) now b f
   pub none : map.get contents b ≡ None
@@ -37,22 +37,22 @@ pub record FreshEntry (site next now : ℕ) (contents : Numbered (List ℕ)) (si
   pub lasting : f.dropping ≡ false
   pub undeleted : f.gone ≡ None
 
-module _ (IsNamed : ℕ → Type 0) (sides : Numbered Side) (requests : Numbered OpenRequest) (now age : ℕ) (IsFresh : ℕ → Entry → Type 0) where
-  abbrev Go : Numbered Entry → Numbered Entry → Type 0
+module _ (IsNamed : ℕ → Type 0) (sides : ByNumber Side) (requests : ByNumber OpenRequest) (now age : ℕ) (IsFresh : ℕ → Entry → Type 0) where
+  abbrev Go : ByNumber Entry → ByNumber Entry → Type 0
   Go old new = EntriesGo IsNamed sides requests now age IsFresh old new
 
   -- they stay as they are
-  pub go_itself : (entries : Numbered Entry) → Go entries entries
+  pub go_itself : (entries : ByNumber Entry) → Go entries entries
   go_itself entries = record { fates = λ b e is. Stays is; comes = λ b e is. inl (e, is) }
 
-  fate_left : (entries : Numbered Entry) (inodes : Numbered Inode) (o : Option ℕ) (b : ℕ) (e f : Entry) → (is_named inodes b ≡ false → IsNamed b → ⊥)
+  fate_left : (entries : ByNumber Entry) (inodes : ByNumber Inode) (o : Option ℕ) (b : ℕ) (e f : Entry) → (is_named inodes b ≡ false → IsNamed b → ⊥)
       → map.get (after_letting_go_if entries inodes now o) b ≡ Some f → StaysOrGoes inodes now o b e f
       → Fate IsNamed sides requests now age b e (map.get (after_letting_go_if entries inodes now o) b)
   fate_left entries inodes o b e f apart is (inl same) = Stays (is ∙ ap Some same)
   fate_left entries inodes o b e f apart is (inr gone) = LetGo (apart gone.1) (is ∙ ap Some gone.2)
 
   -- a bitfile may be let go
-  pub go_let_go : (entries : Numbered Entry) (inodes : Numbered Inode) (o : Option ℕ) → ((b : ℕ) → is_named inodes b ≡ false → IsNamed b → ⊥)
+  pub go_let_go : (entries : ByNumber Entry) (inodes : ByNumber Inode) (o : Option ℕ) → ((b : ℕ) → is_named inodes b ≡ false → IsNamed b → ⊥)
       → Go entries (after_letting_go_if entries inodes now o)
   go_let_go entries inodes o apart = record {
     fates = λ b e is.
@@ -61,7 +61,7 @@ module _ (IsNamed : ℕ → Type 0) (sides : Numbered Side) (requests : Numbered
     comes = λ b f is. let e = let_go-row entries inodes now o b f is in inl (e.0, e.1);
   }
 
-  fate_adjusted : (entries : Numbered Entry) (b : ℕ) (f : Entry → Entry)
+  fate_adjusted : (entries : ByNumber Entry) (b : ℕ) (f : Entry → Entry)
       → ((e : Entry) (o : Option Entry) → o ≡ Some (f e) → Fate IsNamed sides requests now age b e o)
       → (q : ℕ) (e : Entry) → map.get entries q ≡ Some e → Fate IsNamed sides requests now age q e (map.get (adjust entries b f) q)
   fate_adjusted entries b f made q e is =
@@ -72,7 +72,7 @@ module _ (IsNamed : ℕ → Type 0) (sides : Numbered Side) (requests : Numbered
         | inr differ ↦ Stays (adjusted-beside numbers entries b f q differ ∙ is)
       ]
 
-  comes_adjusted : (entries : Numbered Entry) (b : ℕ) (f : Entry → Entry) (q : ℕ) (y : Entry) → map.get (adjust entries b f) q ≡ Some y
+  comes_adjusted : (entries : ByNumber Entry) (b : ℕ) (f : Entry → Entry) (q : ℕ) (y : Entry) → map.get (adjust entries b f) q ≡ Some y
       → (e : Entry) × (map.get entries q ≡ Some e)
   comes_adjusted entries b f q y is =
       elim (adjusted numbers entries b f q y is) [
@@ -81,14 +81,14 @@ module _ (IsNamed : ℕ → Type 0) (sides : Numbered Side) (requests : Numbered
       ]
 
   -- a group stores its copy
-  pub go_stored : (entries : Numbered Entry) (b g : ℕ) → InGroup sides g b → Go entries (adjust entries b (with_copy_of g))
+  pub go_stored : (entries : ByNumber Entry) (b g : ℕ) → InGroup sides g b → Go entries (adjust entries b (with_copy_of g))
   go_stored entries b g there = record {
     fates = fate_adjusted entries b (with_copy_of g) (λ e o is. Stored g there is);
     comes = λ q y is. inl (comes_adjusted entries b (with_copy_of g) q y is);
   }
 
   -- an inode names a bitfile again
-  pub go_named : (entries : Numbered Entry) (o : Option ℕ) → Go entries (with_named entries o)
+  pub go_named : (entries : ByNumber Entry) (o : Option ℕ) → Go entries (with_named entries o)
   go_named entries None = go_itself entries
   go_named entries (Some b) = record {
     fates = fate_adjusted entries b without_deletion_time (λ e o is. Restored is);
@@ -131,7 +131,7 @@ module _ (IsNamed : ℕ → Type 0) (sides : Numbered Side) (requests : Numbered
       }
 
   -- one goes
-  pub go_dropped : (entries : Numbered Entry) (b : ℕ) (e : Entry) → map.get entries b ≡ Some e → e.dropping ≡ true
+  pub go_dropped : (entries : ByNumber Entry) (b : ℕ) (e : Entry) → map.get entries b ≡ Some e → e.dropping ≡ true
       → EachRow sides (λ g s. NotInGroup b s) → Go entries (map.remove entries b)
   go_dropped entries b e is dropping away = record {
     fates = λ q f at.
@@ -147,7 +147,7 @@ module _ (IsNamed : ℕ → Type 0) (sides : Numbered Side) (requests : Numbered
   }
 
   -- one comes, of a bitfile that had none
-  pub go_new : (old mid : Numbered Entry) (b : ℕ) (v : Entry) → map.get old b ≡ None → map.get mid b ≡ None → IsFresh b v → Go old mid
+  pub go_new : (old mid : ByNumber Entry) (b : ℕ) (v : Entry) → map.get old b ≡ None → map.get mid b ≡ None → IsFresh b v → Go old mid
       → Go old (map.insert mid b v)
   go_new old mid b v none still fresh go = record {
     fates = λ q e is.

@@ -13,7 +13,7 @@ use Rattle.dm_durable.specs.declared.daemon.DaemonTables.{DaemonTables}
 use Rattle.dm_durable.specs.declared.daemon.DumpInode.{DumpInode}
 use Rattle.dm_durable.specs.declared.daemon.Entry.{Entry}
 use Rattle.dm_durable.specs.declared.daemon.Inode.{Inode}
-use Rattle.dm_durable.specs.Tables.{Numbered}
+use Rattle.dm_durable.specs.Tables.{ByNumber}
 use Rattle.dm_durable.specs.Inodes.{is_named}
 use Rattle.dm_durable.specs.Entries.{after_letting_go_if, groups_asked}
 use Rattle.dm_durable.specs.Dumps.{file_in}
@@ -33,10 +33,10 @@ use Rattle.dm_landing.proofs.Fates.{EntriesGo, fate_steady}
 use Rattle.dm_landing.proofs.FilesBegun.{other_begun, content_free}
 use Rattle.dm_landing.proofs.FilesWith.{NamedIn}
 
-not_both : (b : ℕ) (inodes : Numbered Inode) → is_named inodes b ≡ false → is_named inodes b ≡ true → ⊥
+not_both : (b : ℕ) (inodes : ByNumber Inode) → is_named inodes b ≡ false → is_named inodes b ≡ true → ⊥
 not_both b inodes none is = cc
 
-module _ (t : DaemonTables) (contents : Numbered (List ℕ)) (cap : ℕ) (sides : Numbered Side) (requests : Numbered OpenRequest) (time : ℕ)
+module _ (t : DaemonTables) (contents : ByNumber (List ℕ)) (cap : ℕ) (sides : ByNumber Side) (requests : ByNumber OpenRequest) (time : ℕ)
     (k : FilesKept t contents cap) (on : t.time.0 ≤ time) where
   abbrev Later : DaemonTables
   Later = record t { time = record { 0 = time } }
@@ -45,10 +45,10 @@ module _ (t : DaemonTables) (contents : Numbered (List ℕ)) (cap : ℕ) (sides 
   abbrev pub Goes : DaemonTables → Type 0
   Goes u = EntriesGo (NamedIn u.inodes) sides requests time t.age (FreshEntry t.site t.counter time contents sides) t.entries u.entries
 
-  same : (inodes : Numbered Inode) → EntriesGo (NamedIn inodes) sides requests time t.age (FreshEntry t.site t.counter time contents sides) t.entries t.entries
+  same : (inodes : ByNumber Inode) → EntriesGo (NamedIn inodes) sides requests time t.age (FreshEntry t.site t.counter time contents sides) t.entries t.entries
   same inodes = go_itself (NamedIn inodes) sides requests time t.age (FreshEntry t.site t.counter time contents sides) t.entries
 
-  goes_let_go : (inodes : Numbered Inode) (o : Option ℕ) → EntriesGo (NamedIn inodes) sides requests time t.age
+  goes_let_go : (inodes : ByNumber Inode) (o : Option ℕ) → EntriesGo (NamedIn inodes) sides requests time t.age
       (FreshEntry t.site t.counter time contents sides) t.entries (after_letting_go_if t.entries inodes time o)
   goes_let_go inodes o = go_let_go (NamedIn inodes) sides requests time t.age (FreshEntry t.site t.counter time contents sides) t.entries inodes o
       (λ b none at. not_both b inodes none at)
@@ -99,13 +99,13 @@ module _ (t : DaemonTables) (contents : Numbered (List ℕ)) (cap : ℕ) (sides 
 
 -- ---- contents
 
-contents_more : (contents : Numbered (List ℕ)) (b : ℕ) (f : Option File) → map.get contents b ≡ None
+contents_more : (contents : ByNumber (List ℕ)) (b : ℕ) (f : Option File) → map.get contents b ≡ None
     → EachRow contents (λ q bytes. map.get (contents_with b f contents) q ≡ Some bytes)
 contents_more contents b None free = λ q bytes at. at
 contents_more contents b (Some f) free = λ q bytes at. beside_free numbers contents b q _ bytes free at
 
 -- contents stay
-pub contents_onward : (d : Daemon) (h : History) (sides : Numbered Side) (r : DaemonRecord) → FilesKept d.tables h.contents d.cap
+pub contents_onward : (d : Daemon) (h : History) (sides : ByNumber Side) (r : DaemonRecord) → FilesKept d.tables h.contents d.cap
     → MayLand d.tables d.requests h.contents d.cap sides r
     → EachRow h.contents (λ q bytes. map.get (history_after_step d r.step h).contents q ≡ Some bytes)
 contents_onward d h sides r k may = more r.step may.follow.step
@@ -131,8 +131,8 @@ contents_onward d h sides r k may = more r.step may.follow.step
 -- ---- groups
 
 -- each group that an entry asks is still configured
-pub configured_go : (IsNamed : ℕ → Type 0) (sides : Numbered Side) (requests : Numbered OpenRequest) (now age site next : ℕ)
-    (contents : Numbered (List ℕ)) (old new : Numbered Entry)
+pub configured_go : (IsNamed : ℕ → Type 0) (sides : ByNumber Side) (requests : ByNumber OpenRequest) (now age site next : ℕ)
+    (contents : ByNumber (List ℕ)) (old new : ByNumber Entry)
     → EntriesGo IsNamed sides requests now age (FreshEntry site next now contents sides) old new
     → EachRow old (λ b e. AllConfigured sides (groups_asked e)) → EachRow new (λ b e. AllConfigured sides (groups_asked e))
 configured_go IsNamed sides requests now age site next contents old new go each = λ b f is.

@@ -3,7 +3,7 @@ use Rattle.std.proofs.Common.{◌≡◌, ◌⊎◌, ℕ, true, false, Option, No
 use Rattle.std.specs.FinMap as map
 use Rattle.dm_tables.specs.Rows.{EachRow}
 use Rattle.dm_durable.specs.declared.daemon.Entry.{Entry}
-use Rattle.dm_durable.specs.Tables.{Numbered}
+use Rattle.dm_durable.specs.Tables.{ByNumber}
 use Rattle.dm_durable.specs.Entries.{asks, has_stored, is_stored, is_due, groups_asked, with_copy_of, with_deletion_time, without_deletion_time, as_dropping}
 use Rattle.dm_model.specs.declared.state.OpenRequest.{OpenRequest}
 use Rattle.dm_model.specs.declared.state.Side.{Side}
@@ -13,7 +13,7 @@ use Rattle.dm_landing.proofs.CopiesStored.{same_groups, same_asks, still_stored,
 
 -- an entry stays; it is let go, where no inode names its bitfile now; a group has stored its copy; an inode names its bitfile
 -- again; a hard delete takes it, which is due and has no open request; or it goes, when its copies are deleted
-pub data Fate (IsNamed : ℕ → Type 0) (sides : Numbered Side) (requests : Numbered OpenRequest) (now age b : ℕ) (e : Entry)
+pub data Fate (IsNamed : ℕ → Type 0) (sides : ByNumber Side) (requests : ByNumber OpenRequest) (now age b : ℕ) (e : Entry)
     (o : Option Entry) : Type 0 where
   Stays : o ≡ Some e → Fate IsNamed sides requests now age b e o
   LetGo : (IsNamed b → ⊥) → o ≡ Some (with_deletion_time now e) → Fate IsNamed sides requests now age b e o
@@ -45,7 +45,7 @@ steady_stored g e = record { len = refl; groups = same_groups g e; asks = λ h. 
 steady_taken : (e : Entry) → Steady e (as_dropping e)
 steady_taken e = record { len = refl; groups = refl; asks = λ g. refl; whole = λ w. w; lasting = λ l. cc }
 
-module _ {IsNamed : ℕ → Type 0} {sides : Numbered Side} {requests : Numbered OpenRequest} {now age b : ℕ} {e : Entry} {o : Option Entry} where
+module _ {IsNamed : ℕ → Type 0} {sides : ByNumber Side} {requests : ByNumber OpenRequest} {now age b : ℕ} {e : Entry} {o : Option Entry} where
   -- an entry that is there after a record is steady
   pub fate_steady : Fate IsNamed sides requests now age b e o → (f : Entry) → o ≡ Some f → Steady e f
   fate_steady (Stays is) f at = subst (λ x. Steady e x) (same_row o e f is at) (steady_itself e)
@@ -80,7 +80,7 @@ module _ {IsNamed : ℕ → Type 0} {sides : Numbered Side} {requests : Numbered
   fate_stored (Dropped dropping away is) f h at had = absurd (none_some o f is at)
 
 -- the entries after a record: each that was there has its fate, and one that comes is that of a new bitfile
-pub record EntriesGo (IsNamed : ℕ → Type 0) (sides : Numbered Side) (requests : Numbered OpenRequest) (now age : ℕ) (IsFresh : ℕ → Entry → Type 0)
-    (old new : Numbered Entry) : Type 0 where
+pub record EntriesGo (IsNamed : ℕ → Type 0) (sides : ByNumber Side) (requests : ByNumber OpenRequest) (now age : ℕ) (IsFresh : ℕ → Entry → Type 0)
+    (old new : ByNumber Entry) : Type 0 where
   pub fates : EachRow old (λ b e. Fate IsNamed sides requests now age b e (map.get new b))
   pub comes : EachRow new (λ b f. ((e : Entry) × (map.get old b ≡ Some e)) ⊎ IsFresh b f)

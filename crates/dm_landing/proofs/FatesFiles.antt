@@ -10,7 +10,7 @@ use Rattle.dm_durable.specs.declared.daemon.Dump.{Dump}
 use Rattle.dm_durable.specs.declared.daemon.DumpInode.{DumpInode}
 use Rattle.dm_durable.specs.declared.daemon.DumpInode.TheVariants.{Kept, Named as NamedFile}
 use Rattle.dm_durable.specs.declared.daemon.Entry.{Entry}
-use Rattle.dm_durable.specs.Tables.{Numbered, Named}
+use Rattle.dm_durable.specs.Tables.{ByNumber, ByName}
 use Rattle.dm_durable.specs.Limits.{AreGroups, IsPast}
 use Rattle.dm_durable.specs.Inodes.{bitfile_of}
 use Rattle.dm_durable.specs.Entries.{is_stored, is_complete, is_due, is_old_at, with_copy_of, with_deletion_time, without_deletion_time, as_dropping}
@@ -52,7 +52,7 @@ not_due_young now age made least (Some since) later le young old =
 -- ---- files
 
 -- the entry that an inode names is named rightly afterwards
-named_fate : (IsNamed : ℕ → Type 0) (sides : Numbered Side) (requests : Numbered OpenRequest) (now age b len : ℕ) (old new : Numbered Entry)
+named_fate : (IsNamed : ℕ → Type 0) (sides : ByNumber Side) (requests : ByNumber OpenRequest) (now age b len : ℕ) (old new : ByNumber Entry)
     → IsNamed b → (h : NamedEntry old b len) → Fate IsNamed sides requests now age b h.entry (map.get new b)
     → (k : NamedEntry new b len) × (is_stored h.entry ≡ true → is_stored k.entry ≡ true)
 named_fate IsNamed sides requests now age b len old new named h (Stays is) =
@@ -67,15 +67,15 @@ named_fate IsNamed sides requests now age b len old new named h (Restored is) =
 named_fate IsNamed sides requests now age b len old new named h (Taken due free is) = absurd (not_due now age h.entry h.there due)
 named_fate IsNamed sides requests now age b len old new named h (Dropped dropping away is) = let l = h.lasting in cc
 
-whole_fate : (IsNamed : ℕ → Type 0) (sides : Numbered Side) (requests : Numbered OpenRequest) (now age b len : ℕ) (old new : Numbered Entry)
+whole_fate : (IsNamed : ℕ → Type 0) (sides : ByNumber Side) (requests : ByNumber OpenRequest) (now age b len : ℕ) (old new : ByNumber Entry)
     → IsNamed b → (h : NamedWhole old b len) → Fate IsNamed sides requests now age b h.named.entry (map.get new b) → NamedWhole new b len
 whole_fate IsNamed sides requests now age b len old new named h fate =
     let k = named_fate IsNamed sides requests now age b len old new named h.named fate in
     record { named = k.0; whole = k.1 h.whole }
 
 -- what an inode holds agrees with entries and contents afterwards
-pub held_go : (IsNamed : ℕ → Type 0) (sides : Numbered Side) (requests : Numbered OpenRequest) (now age : ℕ) (IsFresh : ℕ → Entry → Type 0)
-    (old new : Numbered Entry) (before after : Numbered (List ℕ)) (c : Contents) → EntriesGo IsNamed sides requests now age IsFresh old new
+pub held_go : (IsNamed : ℕ → Type 0) (sides : ByNumber Side) (requests : ByNumber OpenRequest) (now age : ℕ) (IsFresh : ℕ → Entry → Type 0)
+    (old new : ByNumber Entry) (before after : ByNumber (List ℕ)) (c : Contents) → EntriesGo IsNamed sides requests now age IsFresh old new
     → EachRow before (λ b bytes. map.get after b ≡ Some bytes) → ((b : ℕ) → bitfile_of c ≡ Some b → IsNamed b) → HeldRightly old before c
     → HeldRightly new after c
 held_go IsNamed sides requests now age IsFresh old new before after (Regular bytes) go more named h = tt
@@ -92,8 +92,8 @@ held_go IsNamed sides requests now age IsFresh old new before after (Offline len
 
 -- ---- rows of entries
 
-module _ (IsNamed : ℕ → Type 0) (sides : Numbered Side) (requests : Numbered OpenRequest) (now age : ℕ) (IsFresh : ℕ → Entry → Type 0)
-    (old new : Numbered Entry) where
+module _ (IsNamed : ℕ → Type 0) (sides : ByNumber Side) (requests : ByNumber OpenRequest) (now age : ℕ) (IsFresh : ℕ → Entry → Type 0)
+    (old new : ByNumber Entry) where
   -- entries keep their lengths
   pub lengths_go : (site next : ℕ) → EntriesGo IsNamed sides requests now age IsFresh old new
       → ((b : ℕ) (f : Entry) → IsFresh b f → IsGiven site next b → ⊥) → LengthsFrom site next old new
@@ -183,7 +183,7 @@ module _ (IsNamed : ℕ → Type 0) (sides : Numbered Side) (requests : Numbered
   young_before before d on young = earlier before d.made.0 d.least on young
 
   -- what young dumps name is there afterwards
-  pub dumps_go : (before : ℕ) (dumps : Named Dump) → before ≤ now → EntriesGo IsNamed sides requests now age IsFresh old new
+  pub dumps_go : (before : ℕ) (dumps : ByName Dump) → before ≤ now → EntriesGo IsNamed sides requests now age IsFresh old new
       → EachRow dumps (λ name d. d.made.0 ≤ before) → EachRow dumps (λ name d. d.least ≤ age) → DumpsKept before old dumps → DumpsKept now new dumps
   dumps_go before dumps on go made least k = record {
     young = λ name d is young path f at.

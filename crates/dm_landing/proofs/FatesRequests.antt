@@ -3,7 +3,7 @@ use Rattle.std.proofs.Common.{◌≡◌, ℕ, None, Some, List, refl, sym, ap, �
 use Rattle.std.specs.FinMap as map
 use Rattle.dm_tables.specs.Rows.{EachRow}
 use Rattle.dm_durable.specs.declared.daemon.Entry.{Entry}
-use Rattle.dm_durable.specs.Tables.{Numbered}
+use Rattle.dm_durable.specs.Tables.{ByNumber}
 use Rattle.dm_durable.specs.Entries.{with_copy_of, with_deletion_time, without_deletion_time}
 use Rattle.dm_model.specs.declared.state.OpenRequest.{OpenRequest}
 use Rattle.dm_model.specs.declared.state.Side.{Side}
@@ -13,8 +13,8 @@ use Rattle.dm_invariant.proofs.Options.{none_some}
 use Rattle.dm_landing.proofs.CopiesStored.{still_stored}
 use Rattle.dm_landing.proofs.Fates.{Fate, Stays, LetGo, Stored, Restored, Taken, Dropped, fate_steady, EntriesGo}
 
-module _ (IsNamed : ℕ → Type 0) (sides : Numbered Side) (requests : Numbered OpenRequest) (now age : ℕ) (IsFresh : ℕ → Entry → Type 0)
-    (old new : Numbered Entry) where
+module _ (IsNamed : ℕ → Type 0) (sides : ByNumber Side) (requests : ByNumber OpenRequest) (now age : ℕ) (IsFresh : ℕ → Entry → Type 0)
+    (old new : ByNumber Entry) where
   request_fate : (k : ℕ) (r : OpenRequest) → map.get requests k ≡ Some r → (h : RequestEntry old r)
       → Fate IsNamed sides requests now age r.bfid.0 h.entry (map.get new r.bfid.0) → RequestEntry new r
   request_fate k r is h (Stays at) = record { entry = h.entry; is = at; lasting = h.lasting; whole = h.whole }
@@ -38,7 +38,7 @@ module _ (IsNamed : ℕ → Type 0) (sides : Numbered Side) (requests : Numbered
       ap asked_by h.is ∙ sym (fate_steady (go.fates r.bfid.0 h.entry h.is) later.entry later.is).groups ∙ sym (ap asked_by later.is)
 
   -- and the content of its bitfile
-  pub content_go : (before after : Numbered (List ℕ)) (b : ℕ) → EntriesGo IsNamed sides requests now age IsFresh old new
+  pub content_go : (before after : ByNumber (List ℕ)) (b : ℕ) → EntriesGo IsNamed sides requests now age IsFresh old new
       → ((b : ℕ) (f : Entry) → IsFresh b f → map.get before b ≡ None) → EachRow before (λ b bytes. map.get after b ≡ Some bytes)
       → RequestContent old before b → RequestContent new after b
   content_go before after b go fresh more has = record {

@@ -18,7 +18,7 @@ use Rattle.dm_durable.specs.declared.daemon.DumpInode.{DumpInode}
 use Rattle.dm_durable.specs.declared.daemon.DumpInode.TheVariants.{Kept, Named as NamedFile}
 use Rattle.dm_durable.specs.declared.daemon.Entry.{Entry}
 use Rattle.dm_durable.specs.declared.daemon.Inode.{Inode}
-use Rattle.dm_durable.specs.Tables.{Numbered}
+use Rattle.dm_durable.specs.Tables.{ByNumber}
 use Rattle.dm_durable.specs.Inodes.{bitfile_in, bitfile_of, bytes_online, is_named, length_of, as_making, with_contents}
 use Rattle.dm_durable.specs.Entries.{after_letting_go_if, is_stored, new_entry, without_deletion_time}
 use Rattle.dm_durable.specs.Dumps.{as_restored, bitfile_dumped}
@@ -45,7 +45,7 @@ use Rattle.dm_landing.proofs.NamedRows.{LengthsFrom, given_longer, length_onward
 use Rattle.dm_landing.proofs.NamesPut.{names_changed, names_put}
 
 -- the next identifier is of no row of a table of given ones
-pub next_free : {X : Type 0} (site next b : ℕ) (m : Numbered X) → b ≡ bfid_of site next → EachRow m (λ q x. IsGiven site next q) → (o : Option X)
+pub next_free : {X : Type 0} (site next b : ℕ) (m : ByNumber X) → b ≡ bfid_of site next → EachRow m (λ q x. IsGiven site next q) → (o : Option X)
     → map.get m b ≡ o → map.get m b ≡ None
 next_free site next b m is each None at = at
 next_free site next b m is each (Some x) at = absurd (next_not_given site next b is (each b x at))
@@ -59,7 +59,7 @@ online_length (Offline len b) may = absurd may
 one_more : (n : ℕ) → n ≤ number_limit → as_word (n + 1) ≡ n + 1
 one_more n le = omega (arith, le)
 
-module _ (t : DaemonTables) (contents : Numbered (List ℕ)) (cap : ℕ) (sides : Numbered Side) (requests : Numbered OpenRequest) (time : ℕ)
+module _ (t : DaemonTables) (contents : ByNumber (List ℕ)) (cap : ℕ) (sides : ByNumber Side) (requests : ByNumber OpenRequest) (time : ℕ)
     (k : FilesKept t contents cap) (on : t.time.0 ≤ time) where
   -- ---- a put begins
 
@@ -88,7 +88,7 @@ module _ (t : DaemonTables) (contents : Numbered (List ℕ)) (cap : ℕ) (sides 
     undeleted = refl;
   }
 
-  begun_inode : (n : ℕ) (b : Bfid) (i : Inode) (entries : Numbered Entry) (groups : List GroupId) → map.get t.inodes n ≡ Some i → MayBeMade i.contents
+  begun_inode : (n : ℕ) (b : Bfid) (i : Inode) (entries : ByNumber Entry) (groups : List GroupId) → map.get t.inodes n ≡ Some i → MayBeMade i.contents
       → b.0 ≡ bfid_of t.site t.counter → map.get entries b.0 ≡ Some (new_entry (length (bytes_online i.contents)) groups)
       → NewInode t.site (t.counter + 1) t.change entries (map.insert contents b.0 (bytes_online i.contents)) n (with_contents (as_making b) i)
   begun_inode n b i entries groups is may_be next at =
@@ -174,7 +174,7 @@ module _ (t : DaemonTables) (contents : Numbered (List ℕ)) (cap : ℕ) (sides 
 
   -- ---- a file is restored
 
-  restored_held : (f : DumpInode) (entries : Numbered Entry) → entries ≡ with_named t.entries (bitfile_dumped f) → IsThere t.entries f
+  restored_held : (f : DumpInode) (entries : ByNumber Entry) → entries ≡ with_named t.entries (bitfile_dumped f) → IsThere t.entries f
       → MayBeDumpFile t.site t.counter t.entries f → HeldRightly entries contents (as_restored f)
   restored_held (Kept bytes) entries are there may = tt
   restored_held (NamedFile len b) entries are there may =
@@ -195,7 +195,7 @@ module _ (t : DaemonTables) (contents : Numbered (List ℕ)) (cap : ℕ) (sides 
       not_true true h = cc
       not_true false h = refl
 
-  restored_names : (f : DumpInode) (entries : Numbered Entry) → LengthsFrom t.site t.counter t.entries entries
+  restored_names : (f : DumpInode) (entries : ByNumber Entry) → LengthsFrom t.site t.counter t.entries entries
       → MayBeDumpFile t.site t.counter t.entries f → MayBeNamed t.site t.counter entries (length_of (as_restored f)) (bitfile_of (as_restored f))
   restored_names (Kept bytes) entries from may = tt
   restored_names (NamedFile len b) entries from may =

@@ -13,7 +13,7 @@ use Rattle.dm_durable.specs.declared.daemon.Contents.TheVariants.{Regular, Makin
 use Rattle.dm_durable.specs.declared.daemon.DaemonTables.{DaemonTables}
 use Rattle.dm_durable.specs.declared.daemon.Entry.{Entry}
 use Rattle.dm_durable.specs.declared.daemon.Inode.{Inode}
-use Rattle.dm_durable.specs.Tables.{Numbered, Named}
+use Rattle.dm_durable.specs.Tables.{ByNumber, ByName}
 use Rattle.dm_durable.specs.Inodes.{bitfile_in, bitfile_of, length_of, is_named}
 use Rattle.dm_durable.specs.Entries.{after_letting_go_if}
 use Rattle.dm_durable.specs.Daemon.{number_or, size_of_files, size_of_dumps}
@@ -30,7 +30,7 @@ use Rattle.dm_landing.proofs.FilesWith.{NamedIn, NoneComes, NamesKept, names_kep
 use Rattle.dm_landing.proofs.NamesPut.{names_put, names_left}
 
 -- entries of which one bitfile was let go are as many
-pub counted_let_go : (entries : Numbered Entry) (inodes : Numbered Inode) (time : ℕ) (o : Option ℕ)
+pub counted_let_go : (entries : ByNumber Entry) (inodes : ByNumber Inode) (time : ℕ) (o : Option ℕ)
     → map.len (after_letting_go_if entries inodes time o) ≡ map.len entries
 counted_let_go entries inodes time None = refl
 counted_let_go entries inodes time (Some b) = counted (is_named inodes b)
@@ -39,10 +39,10 @@ counted_let_go entries inodes time (Some b) = counted (is_named inodes b)
     counted true = refl
     counted false = counted_adjust numbers entries b _
 
-not_both : (b : ℕ) (inodes : Numbered Inode) → is_named inodes b ≡ false → is_named inodes b ≡ true → ⊥
+not_both : (b : ℕ) (inodes : ByNumber Inode) → is_named inodes b ≡ false → is_named inodes b ≡ true → ⊥
 not_both b inodes none is = cc
 
-module _ (t : DaemonTables) (contents : Numbered (List ℕ)) (cap : ℕ) (sides : Numbered Side) (requests : Numbered OpenRequest) (time : ℕ)
+module _ (t : DaemonTables) (contents : ByNumber (List ℕ)) (cap : ℕ) (sides : ByNumber Side) (requests : ByNumber OpenRequest) (time : ℕ)
     (k : FilesKept t contents cap) (on : t.time.0 ≤ time) where
   -- ---- numbers of inodes
 
@@ -73,7 +73,7 @@ module _ (t : DaemonTables) (contents : Numbered (List ℕ)) (cap : ℕ) (sides 
 
   -- ---- one file is put
 
-  abbrev pub Other : ℕ → ℕ → Named Ino → Numbered Inode → Numbered Entry → Numbered (List ℕ) → Type 0
+  abbrev pub Other : ℕ → ℕ → ByName Ino → ByNumber Inode → ByNumber Entry → ByNumber (List ℕ) → Type 0
   Other change counter names inodes entries after = OtherFiles NoneComes t contents after cap sides requests time change counter names inodes entries
 
   -- the contents name no bitfile
@@ -83,19 +83,19 @@ module _ (t : DaemonTables) (contents : Numbered (List ℕ)) (cap : ℕ) (sides 
   IsPlain (Dual bytes b) = ⊥
   IsPlain (Offline len b) = ⊥
 
-  plain_named : (c : Contents) (entries : Numbered Entry) (len : ℕ) → IsPlain c → MayBeNamed t.site t.counter entries len (bitfile_of c)
+  plain_named : (c : Contents) (entries : ByNumber Entry) (len : ℕ) → IsPlain c → MayBeNamed t.site t.counter entries len (bitfile_of c)
   plain_named (Regular bytes) entries len plain = tt
   plain_named (Making bytes b) entries len plain = absurd plain
   plain_named (Dual bytes b) entries len plain = absurd plain
   plain_named (Offline n b) entries len plain = absurd plain
 
-  plain_held : (c : Contents) (entries : Numbered Entry) → IsPlain c → HeldRightly entries contents c
+  plain_held : (c : Contents) (entries : ByNumber Entry) → IsPlain c → HeldRightly entries contents c
   plain_held (Regular bytes) entries plain = tt
   plain_held (Making bytes b) entries plain = absurd plain
   plain_held (Dual bytes b) entries plain = absurd plain
   plain_held (Offline n b) entries plain = absurd plain
 
-  new_inode : (change n : ℕ) (i : Inode) (entries : Numbered Entry) → IsChange change n → IsChange change i.change → length_of i.contents ≤ file_limit
+  new_inode : (change n : ℕ) (i : Inode) (entries : ByNumber Entry) → IsChange change n → IsChange change i.change → length_of i.contents ≤ file_limit
       → IsPlain i.contents → NewInode t.site t.counter change entries contents n i
   new_inode change n i entries number changed short plain = record {
     may = record { number = number; change = changed; short = short; names = plain_named i.contents entries _ plain };
@@ -103,7 +103,7 @@ module _ (t : DaemonTables) (contents : Numbered (List ℕ)) (cap : ℕ) (sides 
   }
 
   -- an inode is put, which lets go what was there; names and numbers go on
-  put_inode : (change n : ℕ) (names : Named Ino) (i : Inode) → t.change ≤ change → change ≤ number_limit → map.len names ≤ files_limit
+  put_inode : (change n : ℕ) (names : ByName Ino) (i : Inode) → t.change ≤ change → change ≤ number_limit → map.len names ≤ files_limit
       → NamesKept names (map.insert t.inodes n i) → IsChange change n → IsChange change i.change → length_of i.contents ≤ file_limit
       → IsPlain i.contents
       → size_of_files (map.insert t.inodes n i) + size_of_dumps t.dumps ≤ cap

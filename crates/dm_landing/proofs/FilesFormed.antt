@@ -12,7 +12,7 @@ use Rattle.dm_durable.specs.declared.daemon.Contents.TheVariants.{Regular, Makin
 use Rattle.dm_durable.specs.declared.daemon.DaemonTables.{DaemonTables}
 use Rattle.dm_durable.specs.declared.daemon.Entry.{Entry}
 use Rattle.dm_durable.specs.declared.daemon.Inode.{Inode}
-use Rattle.dm_durable.specs.Tables.{Numbered}
+use Rattle.dm_durable.specs.Tables.{ByNumber}
 use Rattle.dm_durable.specs.Inodes.{bitfile_in, bitfile_of, is_bitfile, is_named, length_of}
 use Rattle.dm_durable.specs.Entries.{after_letting_go, after_letting_go_if}
 use Rattle.dm_durable.specs.Daemon.{size_of_files}
@@ -28,11 +28,11 @@ use Rattle.dm_landing.proofs.FilesChange.{counted_let_go}
 use Rattle.dm_landing.proofs.FilesWith.{NamedIn, NoneComes, names_kept, NewInode, OtherFiles}
 use Rattle.dm_landing.proofs.NamesPut.{names_changed}
 
-pub not_both : (b : ℕ) (inodes : Numbered Inode) → is_named inodes b ≡ false → is_named inodes b ≡ true → ⊥
+pub not_both : (b : ℕ) (inodes : ByNumber Inode) → is_named inodes b ≡ false → is_named inodes b ≡ true → ⊥
 not_both b inodes none is = cc
 
 -- a file that changes and keeps its length keeps the size
-pub size_changed : (inodes : Numbered Inode) (n : ℕ) (i j : Inode) → map.get inodes n ≡ Some i → length_of j.contents ≡ length_of i.contents
+pub size_changed : (inodes : ByNumber Inode) (n : ℕ) (i j : Inode) → map.get inodes n ≡ Some i → length_of j.contents ≡ length_of i.contents
     → size_of_files (map.insert inodes n j) ≡ size_of_files inodes
 size_changed inodes n i j is same =
     let sum = total-insert numbers (λ x. length_of x.contents) inodes n j in
@@ -40,7 +40,7 @@ size_changed inodes n i j is same =
     omega arith
 
 -- an inode that names the same bitfile leaves no other unnamed
-still_unnamed : (inodes : Numbered Inode) (n : ℕ) (i j : Inode) → map.get inodes n ≡ Some i → bitfile_of j.contents ≡ bitfile_of i.contents → (b : ℕ)
+still_unnamed : (inodes : ByNumber Inode) (n : ℕ) (i j : Inode) → map.get inodes n ≡ Some i → bitfile_of j.contents ≡ bitfile_of i.contents → (b : ℕ)
     → is_named (map.insert inodes n j) b ≡ false → is_named inodes b ≡ false
 still_unnamed inodes n i j is same b none =
     let each = any-false numbers (λ m x. is_bitfile b (bitfile_of x.contents)) (map.insert inodes n j) none in
@@ -52,15 +52,15 @@ still_unnamed inodes n i j is same b none =
     ])
 
 -- nor does one that is new
-pub still_unnamed_new : (inodes : Numbered Inode) (n : ℕ) (j : Inode) → map.get inodes n ≡ None → (b : ℕ)
+pub still_unnamed_new : (inodes : ByNumber Inode) (n : ℕ) (j : Inode) → map.get inodes n ≡ None → (b : ℕ)
     → is_named (map.insert inodes n j) b ≡ false → is_named inodes b ≡ false
 still_unnamed_new inodes n j free b none =
     let each = any-false numbers (λ m x. is_bitfile b (bitfile_of x.contents)) (map.insert inodes n j) none in
     any-none (λ m x. is_bitfile b (bitfile_of x.contents)) inodes (λ m x at. each m x (beside_free numbers inodes n m j x free at))
 
-module _ (t : DaemonTables) (contents : Numbered (List ℕ)) (cap : ℕ) (sides : Numbered Side) (requests : Numbered OpenRequest) (time : ℕ)
+module _ (t : DaemonTables) (contents : ByNumber (List ℕ)) (cap : ℕ) (sides : ByNumber Side) (requests : ByNumber OpenRequest) (time : ℕ)
     (k : FilesKept t contents cap) (on : t.time.0 ≤ time) where
-  pub changed_from : (counter : ℕ) (entries : Numbered Entry) (after : Numbered (List ℕ)) (n : ℕ) (j : Inode)
+  pub changed_from : (counter : ℕ) (entries : ByNumber Entry) (after : ByNumber (List ℕ)) (n : ℕ) (j : Inode)
       → NewInode t.site counter t.change entries after n j
       → EachRow (map.insert t.inodes n j) (λ q x. (map.get t.inodes q ≡ Some x) ⊎ NewInode t.site counter t.change entries after q x)
   changed_from counter entries after n j new = λ q x is.

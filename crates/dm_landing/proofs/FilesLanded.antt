@@ -14,7 +14,7 @@ use Rattle.dm_durable.specs.declared.daemon.DaemonStep.TheVariants.{Write, Remov
 use Rattle.dm_durable.specs.declared.daemon.DaemonTables.{DaemonTables}
 use Rattle.dm_durable.specs.declared.daemon.Entry.{Entry}
 use Rattle.dm_durable.specs.declared.daemon.Inode.{Inode}
-use Rattle.dm_durable.specs.Tables.{Numbered}
+use Rattle.dm_durable.specs.Tables.{ByNumber}
 use Rattle.dm_durable.specs.Inodes.{bitfile_of, length_of, as_ended, as_offline, as_recalled, with_contents}
 use Rattle.dm_durable.specs.Entries.{after_letting_go, is_stored}
 use Rattle.dm_durable.specs.Dumps.{file_in}
@@ -47,7 +47,7 @@ dual_names (Dual bytes b) = refl
 dual_names (Offline len b) = refl
 
 -- with every copy stored the file is dual-state
-held_dual : (entries : Numbered Entry) (contents : Numbered (List ℕ)) (b : Bfid) (bytes : List ℕ) (e : Entry) (c : Contents)
+held_dual : (entries : ByNumber Entry) (contents : ByNumber (List ℕ)) (b : Bfid) (bytes : List ℕ) (e : Entry) (c : Contents)
     → map.get entries b.0 ≡ Some e → is_stored e ≡ true → c ≡ Making bytes b → HeldRightly entries contents c
     → HeldRightly entries contents (as_ended true c)
 held_dual entries contents b bytes e c known whole form h =
@@ -62,7 +62,7 @@ offline_names (Regular bytes) = refl
 offline_names (Making bytes b) = refl
 offline_names (Offline len b) = refl
 
-held_offline : (entries : Numbered Entry) (contents : Numbered (List ℕ)) (c : Contents) → HeldRightly entries contents c
+held_offline : (entries : ByNumber Entry) (contents : ByNumber (List ℕ)) (c : Contents) → HeldRightly entries contents c
     → HeldRightly entries contents (as_offline c)
 held_offline entries contents (Dual bytes b) h = h.0
 held_offline entries contents (Regular bytes) h = h
@@ -78,7 +78,7 @@ recalled_names bytes (Dual old b) = refl
 recalled_length : (bytes : List ℕ) (b : Bfid) (c : Contents) → c ≡ Offline (length bytes) b → length_of (as_recalled bytes c) ≡ length_of c
 recalled_length bytes b c form = ap (λ x. length_of (as_recalled bytes x)) form ∙ ap length_of (sym form)
 
-held_recalled : (entries : Numbered Entry) (contents : Numbered (List ℕ)) (bytes : List ℕ) (b : Bfid) (c : Contents) → c ≡ Offline (length bytes) b
+held_recalled : (entries : ByNumber Entry) (contents : ByNumber (List ℕ)) (bytes : List ℕ) (b : Bfid) (c : Contents) → c ≡ Offline (length bytes) b
     → map.get contents b.0 ≡ Some bytes → HeldRightly entries contents c → HeldRightly entries contents (as_recalled bytes c)
 held_recalled entries contents bytes b c form content h =
     let away : HeldRightly entries contents (Offline (length bytes) b) = subst (λ x. HeldRightly entries contents x) form h in
@@ -87,7 +87,7 @@ held_recalled entries contents bytes b c form content h =
 
 -- ---- the steps that change files
 
-module _ (t : DaemonTables) (contents : Numbered (List ℕ)) (cap : ℕ) (sides : Numbered Side) (requests : Numbered OpenRequest) (time : ℕ)
+module _ (t : DaemonTables) (contents : ByNumber (List ℕ)) (cap : ℕ) (sides : ByNumber Side) (requests : ByNumber OpenRequest) (time : ℕ)
     (k : FilesKept t contents cap) (on : t.time.0 ≤ time) where
   abbrev Later : DaemonTables
   Later = record t { time = record { 0 = time } }
@@ -163,7 +163,7 @@ module _ (t : DaemonTables) (contents : Numbered (List ℕ)) (cap : ℕ) (sides 
 
 -- ---- every step
 
-step_landed : (d : Daemon) (h : History) (sides : Numbered Side) (time : ℕ) (s : DaemonStep) → FilesKept d.tables h.contents d.cap
+step_landed : (d : Daemon) (h : History) (sides : ByNumber Side) (time : ℕ) (s : DaemonStep) → FilesKept d.tables h.contents d.cap
     → d.tables.time.0 ≤ time → MayStep d.tables time s → StepNeeds d.tables d.requests h.contents d.cap sides s
     → FilesKept (after_step (record d.tables { time = record { 0 = time } }) s) (history_after_step d s h).contents d.cap
 step_landed d h sides time (Write path change bytes) k on may needs =
@@ -198,6 +198,6 @@ step_landed d h sides time (Age age) k on may needs =
     (same_aged d.tables h.contents d.cap sides d.requests time k on age may)
 
 -- files are kept by a record that may land
-pub files_landed : (d : Daemon) (h : History) (sides : Numbered Side) (r : DaemonRecord) → FilesKept d.tables h.contents d.cap
+pub files_landed : (d : Daemon) (h : History) (sides : ByNumber Side) (r : DaemonRecord) → FilesKept d.tables h.contents d.cap
     → MayLand d.tables d.requests h.contents d.cap sides r → FilesKept (after_record d.tables r) (history_after_step d r.step h).contents d.cap
 files_landed d h sides r k may = step_landed d h sides r.time.0 r.step k may.follow.time may.follow.step may.needs

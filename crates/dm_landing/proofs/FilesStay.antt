@@ -18,7 +18,7 @@ use Rattle.dm_durable.specs.declared.daemon.DaemonStep.TheVariants as step
 use Rattle.dm_durable.specs.declared.daemon.Dump.{Dump}
 use Rattle.dm_durable.specs.declared.daemon.Entry.{Entry}
 use Rattle.dm_durable.specs.declared.daemon.Inode.{Inode}
-use Rattle.dm_durable.specs.Tables.{Numbered, Named}
+use Rattle.dm_durable.specs.Tables.{ByNumber, ByName}
 use Rattle.dm_durable.specs.Inodes.{bitfile_of, length_of, is_named}
 use Rattle.dm_durable.specs.Entries.{with_copy_of, as_dropping}
 use Rattle.dm_durable.specs.Dumps.{dump_size, file_dumped, file_dumped_if, new_dump, with_least}
@@ -39,21 +39,21 @@ use Rattle.dm_landing.proofs.FatesFiles.{lengths_go}
 use Rattle.dm_landing.proofs.FilesWith.{NamedIn, NoneComes, SameFiles}
 use Rattle.dm_landing.proofs.NamedRows.{dumps_onward}
 
-module _ (t : DaemonTables) (contents : Numbered (List ℕ)) (cap : ℕ) (sides : Numbered Side) (requests : Numbered OpenRequest) (time : ℕ)
+module _ (t : DaemonTables) (contents : ByNumber (List ℕ)) (cap : ℕ) (sides : ByNumber Side) (requests : ByNumber OpenRequest) (time : ℕ)
     (k : FilesKept t contents cap) (on : t.time.0 ≤ time) where
-  abbrev Goes : Numbered Entry → Type 0
+  abbrev Goes : ByNumber Entry → Type 0
   Goes entries = EntriesGo (NamedIn t.inodes) sides requests time t.age NoneComes t.entries entries
 
-  abbrev pub Same : ℕ → Numbered Entry → Named Dump → Type 0
+  abbrev pub Same : ℕ → ByNumber Entry → ByName Dump → Type 0
   Same age entries dumps = SameFiles t contents cap sides requests time age entries dumps
 
-  dumps_stay : (entries : Numbered Entry) → Goes entries → EachRow t.dumps (λ name d. MayBeDump t.site t.counter time t.age entries d)
+  dumps_stay : (entries : ByNumber Entry) → Goes entries → EachRow t.dumps (λ name d. MayBeDump t.site t.counter time t.age entries d)
   dumps_stay entries go =
       dumps_onward t.site t.counter t.counter t.time.0 time t.age t.entries entries t.dumps (omega arith) on
       (lengths_go (NamedIn t.inodes) sides requests time t.age NoneComes t.entries entries t.site t.counter go (λ b e none given. none)) k.state.dumps
 
   -- entries alone change
-  entries_alone : (entries : Numbered Entry) → Goes entries → EachRow entries (λ b e. is_named t.inodes b ≡ false → IsSome e.gone)
+  entries_alone : (entries : ByNumber Entry) → Goes entries → EachRow entries (λ b e. is_named t.inodes b ≡ false → IsSome e.gone)
       → map.len entries ≤ map.len t.entries → Same t.age entries t.dumps
   entries_alone entries go unnamed fewer = record {
     on = on;
@@ -105,7 +105,7 @@ module _ (t : DaemonTables) (contents : Numbered (List ℕ)) (cap : ℕ) (sides 
   -- ---- dumps
 
   -- dumps or the age change alone
-  dumps_alone : (age : ℕ) (dumps : Named Dump) → age ≤ age_limit → map.len dumps ≤ dumps_limit
+  dumps_alone : (age : ℕ) (dumps : ByName Dump) → age ≤ age_limit → map.len dumps ≤ dumps_limit
       → EachRow dumps (λ name d. MayBeDump t.site t.counter time age t.entries d)
       → size_of_files t.inodes + size_of_dumps dumps ≤ cap → Same age t.entries dumps
   dumps_alone age dumps old few rows size = record {

@@ -8,7 +8,7 @@ use Rattle.dm_durable.specs.declared.daemon.DaemonTables.{DaemonTables}
 use Rattle.dm_durable.specs.declared.daemon.Dump.{Dump}
 use Rattle.dm_durable.specs.declared.daemon.Entry.{Entry}
 use Rattle.dm_durable.specs.declared.daemon.Inode.{Inode}
-use Rattle.dm_durable.specs.Tables.{Numbered, Named}
+use Rattle.dm_durable.specs.Tables.{ByNumber, ByName}
 use Rattle.dm_durable.specs.Inodes.{is_named}
 use Rattle.dm_durable.specs.Daemon.{size_of_files, size_of_dumps}
 use Rattle.dm_durable.specs.DaemonJournal.{IsGiven, MayBeEntry, MayBeInode, MayBeDump}
@@ -21,7 +21,7 @@ use Rattle.dm_landing.proofs.FatesFiles.{held_go, lengths_go, entries_go}
 use Rattle.dm_landing.proofs.NamedRows.{LengthsFrom, inodes_onward, inode_onward, dumps_onward}
 
 -- an inode's bitfile is named by one of these
-abbrev pub NamedIn : Numbered Inode → ℕ → Type 0
+abbrev pub NamedIn : ByNumber Inode → ℕ → Type 0
 NamedIn inodes b = is_named inodes b ≡ true
 
 -- no entry comes
@@ -29,18 +29,18 @@ abbrev pub NoneComes : ℕ → Entry → Type 0
 NoneComes b f = ⊥
 
 -- each name leads to an inode, no two names to one, and each inode has a name
-pub record NamesKept (names : Named Ino) (inodes : Numbered Inode) : Type 0 where
+pub record NamesKept (names : ByName Ino) (inodes : ByNumber Inode) : Type 0 where
   pub names_lead : EachRow names (λ path n. IsSome (map.get inodes n.0))
   pub apart : (p q : List ℕ) (n m : Ino) → map.get names p ≡ Some n → map.get names q ≡ Some m → n.0 ≡ m.0 → p ≡ q
   pub named : EachRow inodes (λ n i. (path : List ℕ) × (ino : Ino) × (map.get names path ≡ Some ino) × (ino.0 ≡ n))
 
-pub names_kept : (t : DaemonTables) (contents : Numbered (List ℕ)) (cap : ℕ) → FilesKept t contents cap → NamesKept t.names t.inodes
+pub names_kept : (t : DaemonTables) (contents : ByNumber (List ℕ)) (cap : ℕ) → FilesKept t contents cap → NamesKept t.names t.inodes
 names_kept t contents cap k = record { names_lead = k.state.names; apart = k.state.names_apart; named = k.state.named }
 
 -- ---- files stay, and entries, dumps or the age change
 
-pub record SameFiles (t : DaemonTables) (contents : Numbered (List ℕ)) (cap : ℕ) (sides : Numbered Side) (requests : Numbered OpenRequest)
-    (time age : ℕ) (entries : Numbered Entry) (dumps : Named Dump) : Type 0 where
+pub record SameFiles (t : DaemonTables) (contents : ByNumber (List ℕ)) (cap : ℕ) (sides : ByNumber Side) (requests : ByNumber OpenRequest)
+    (time age : ℕ) (entries : ByNumber Entry) (dumps : ByName Dump) : Type 0 where
   pub on : t.time.0 ≤ time
   pub old : age ≤ age_limit
   pub go : EntriesGo (NamedIn t.inodes) sides requests time t.age NoneComes t.entries entries
@@ -50,8 +50,8 @@ pub record SameFiles (t : DaemonTables) (contents : Numbered (List ℕ)) (cap : 
   pub rows : EachRow dumps (λ name d. MayBeDump t.site t.counter time age entries d)
   pub size : size_of_files t.inodes + size_of_dumps dumps ≤ cap
 
-pub files_same : (t : DaemonTables) (contents : Numbered (List ℕ)) (cap : ℕ) (sides : Numbered Side) (requests : Numbered OpenRequest)
-    (time age : ℕ) (entries : Numbered Entry) (dumps : Named Dump) → FilesKept t contents cap
+pub files_same : (t : DaemonTables) (contents : ByNumber (List ℕ)) (cap : ℕ) (sides : ByNumber Side) (requests : ByNumber OpenRequest)
+    (time age : ℕ) (entries : ByNumber Entry) (dumps : ByName Dump) → FilesKept t contents cap
     → SameFiles t contents cap sides requests time age entries dumps
     → FilesKept (record t { time = record { 0 = time }; age = age; entries = entries; dumps = dumps }) contents cap
 files_same t contents cap sides requests time age entries dumps k f =
@@ -89,12 +89,12 @@ files_same t contents cap sides requests time age entries dumps k f =
 -- ---- files change, and dumps stay
 
 -- a new inode, or one that is changed
-pub record NewInode (site next last : ℕ) (entries : Numbered Entry) (contents : Numbered (List ℕ)) (n : ℕ) (i : Inode) : Type 0 where
+pub record NewInode (site next last : ℕ) (entries : ByNumber Entry) (contents : ByNumber (List ℕ)) (n : ℕ) (i : Inode) : Type 0 where
   pub may : MayBeInode site next last entries n i
   pub held : HeldRightly entries contents i.contents
 
-pub record OtherFiles (IsFresh : ℕ → Entry → Type 0) (t : DaemonTables) (before contents : Numbered (List ℕ)) (cap : ℕ) (sides : Numbered Side)
-    (requests : Numbered OpenRequest) (time change counter : ℕ) (names : Named Ino) (inodes : Numbered Inode) (entries : Numbered Entry) : Type 0 where
+pub record OtherFiles (IsFresh : ℕ → Entry → Type 0) (t : DaemonTables) (before contents : ByNumber (List ℕ)) (cap : ℕ) (sides : ByNumber Side)
+    (requests : ByNumber OpenRequest) (time change counter : ℕ) (names : ByName Ino) (inodes : ByNumber Inode) (entries : ByNumber Entry) : Type 0 where
   pub on : t.time.0 ≤ time
   pub last : t.change ≤ change
   pub last_most : change ≤ number_limit
@@ -112,8 +112,8 @@ pub record OtherFiles (IsFresh : ℕ → Entry → Type 0) (t : DaemonTables) (b
   pub given : EachRow contents (λ b bytes. IsGiven t.site counter b)
   pub size : size_of_files inodes + size_of_dumps t.dumps ≤ cap
 
-module _ (IsFresh : ℕ → Entry → Type 0) (t : DaemonTables) (before contents : Numbered (List ℕ)) (cap : ℕ) (sides : Numbered Side) (requests : Numbered OpenRequest)
-    (time change counter : ℕ) (names : Named Ino) (inodes : Numbered Inode) (entries : Numbered Entry) where
+module _ (IsFresh : ℕ → Entry → Type 0) (t : DaemonTables) (before contents : ByNumber (List ℕ)) (cap : ℕ) (sides : ByNumber Side) (requests : ByNumber OpenRequest)
+    (time change counter : ℕ) (names : ByName Ino) (inodes : ByNumber Inode) (entries : ByNumber Entry) where
   lengths_other : OtherFiles IsFresh t before contents cap sides requests time change counter names inodes entries
       → LengthsFrom t.site t.counter t.entries entries
   lengths_other f =

@@ -8,7 +8,7 @@ use Rattle.dm_durable.specs.declared.daemon.Entry.{Entry}
 use Rattle.dm_durable.specs.declared.group.GroupRecord.{GroupRecord}
 use Rattle.dm_durable.specs.declared.group.GroupStep.{GroupStep}
 use Rattle.dm_durable.specs.declared.group.GroupStep.TheVariants.{Volume, Commit, Delete, Move, Free, Reuse}
-use Rattle.dm_durable.specs.Tables.{Numbered}
+use Rattle.dm_durable.specs.Tables.{ByNumber}
 use Rattle.dm_model.specs.declared.plan.Payload.TheVariants as payload
 use Rattle.dm_model.specs.declared.state.OpenRequest.{OpenRequest}
 use Rattle.dm_model.specs.declared.state.Side.{Side}
@@ -24,7 +24,7 @@ use Rattle.dm_landing.proofs.VolumeMoved.{chunk_moved}
 use Rattle.dm_landing.proofs.VolumeReused.{volume_reused_lands}
 
 -- what a group ever committed, after a step
-abbrev pub committed_after : GroupStep → Numbered (Unit {0}) → Numbered (Unit {0})
+abbrev pub committed_after : GroupStep → ByNumber (Unit {0}) → ByNumber (Unit {0})
 committed_after (Volume vsn slot version size) committed = committed
 committed_after (Commit b len chunks) committed = map.insert committed b.0 tt
 committed_after (Delete b) committed = committed
@@ -33,13 +33,13 @@ committed_after (Free vsn) committed = committed
 committed_after (Reuse vsn epoch version) committed = committed
 
 -- what a side needs for a record to land now: it may land, and no place of a chunk that it puts on volumes is another's
-pub record MayLandNow (g : ℕ) (entries : Numbered Entry) (contents : Numbered (List ℕ)) (taken deleted : Numbered (Unit {0})) (s : Side)
+pub record MayLandNow (g : ℕ) (entries : ByNumber Entry) (contents : ByNumber (List ℕ)) (taken deleted : ByNumber (Unit {0})) (s : Side)
     (r : GroupRecord) : Type 0 where
   pub may : GroupMayLand g entries contents taken deleted s r
   pub places : PlacesKept s.group.tables.bitfiles s.group.reservations s.group.moves (Some r)
 
-module _ (entries : Numbered Entry) (contents : Numbered (List ℕ)) (taken : Numbered (Unit {0})) (requests : Numbered OpenRequest) (g : ℕ)
-    (committed deleted : Numbered (Unit {0})) (s : Side) (h : GroupId) (dropping : EachRow entries (λ b e. e.dropping ≡ is_some (map.get taken b)))
+module _ (entries : ByNumber Entry) (contents : ByNumber (List ℕ)) (taken : ByNumber (Unit {0})) (requests : ByNumber OpenRequest) (g : ℕ)
+    (committed deleted : ByNumber (Unit {0})) (s : Side) (h : GroupId) (dropping : EachRow entries (λ b e. e.dropping ≡ is_some (map.get taken b)))
     (k : SideKept entries contents taken requests g committed deleted s) where
   abbrev landed : GroupRecord → Side
   landed r = side_after_payload (Some (payload.Group h r)) (side_without_doubt true s)

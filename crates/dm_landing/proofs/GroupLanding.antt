@@ -6,7 +6,7 @@ use Rattle.dm_tables.specs.Rows.{EachRow}
 use Rattle.dm_durable.specs.declared.daemon.Entry.{Entry}
 use Rattle.dm_durable.specs.declared.group.GroupRecord.{GroupRecord}
 use Rattle.dm_durable.specs.declared.group.GroupTables.{GroupTables}
-use Rattle.dm_durable.specs.Tables.{Numbered, Named}
+use Rattle.dm_durable.specs.Tables.{ByNumber, ByName}
 use Rattle.dm_durable.specs.Volumes.{epoch_or}
 use Rattle.dm_model.specs.declared.state.Image.{Image}
 use Rattle.dm_model.specs.declared.state.OpenRequest.{OpenRequest}
@@ -19,16 +19,16 @@ use Rattle.dm_invariant.specs.Volumes.{VolumesKept}
 use Rattle.dm_landing.proofs.VolumesOnward.{OnwardAt, OriginOnward, mount_once_onward, move_onward, reservation_onward, reuse_onward}
 
 -- the side with these tables, tips and images, and nothing in doubt
-abbrev pub landed_as : GroupTables → Named ℕ → Named Image → Side → Side
+abbrev pub landed_as : GroupTables → ByName ℕ → ByName Image → Side → Side
 landed_as t tips images s =
     record s { group = record s.group { tables = t; tips = tips; doubt = None }; images = images }
 
 -- a volume of the side is as it was in these, but that it may be written further
-abbrev pub StaysAt : Side → GroupTables → Named ℕ → Named Image → List ℕ → Type 0
+abbrev pub StaysAt : Side → GroupTables → ByName ℕ → ByName Image → List ℕ → Type 0
 StaysAt s t tips images vsn = OnwardAt s.group.tables.volumes t.volumes s.group.tips tips s.images images vsn
 
 -- what is open has what it is about: each volume that is used stays, and no reservation is of a bitfile that is there
-pub record OpenStays (s : Side) (t : GroupTables) (tips : Named ℕ) (images : Named Image) : Type 0 where
+pub record OpenStays (s : Side) (t : GroupTables) (tips : ByName ℕ) (images : ByName Image) : Type 0 where
   pub number : t.group ≡ s.group.tables.group
   pub later : s.group.tables.time.0 ≤ t.time.0
   pub epochs : EachRow s.mounts (λ m x. epoch_or (map.get t.volumes x.vsn.0) ≡ epoch_or (map.get s.group.tables.volumes x.vsn.0))
@@ -39,8 +39,8 @@ pub record OpenStays (s : Side) (t : GroupTables) (tips : Named ℕ) (images : N
   pub reused : EachRow s.group.reuses (λ m x. StaysAt s t tips images x.vsn.0)
 
 -- so the side is kept, with its bitfiles, volumes and places
-pub side_as : (entries : Numbered Entry) (contents : Numbered (List ℕ)) (taken : Numbered (Unit {0})) (requests : Numbered OpenRequest)
-    (g : ℕ) (committed more deleted : Numbered (Unit {0})) (s : Side) (t : GroupTables) (tips : Named ℕ) (images : Named Image)
+pub side_as : (entries : ByNumber Entry) (contents : ByNumber (List ℕ)) (taken : ByNumber (Unit {0})) (requests : ByNumber OpenRequest)
+    (g : ℕ) (committed more deleted : ByNumber (Unit {0})) (s : Side) (t : GroupTables) (tips : ByName ℕ) (images : ByName Image)
     → OpenStays s t tips images
     → SideKept entries contents taken requests g committed deleted s
     → CatalogueKept g entries contents taken t.volumes images t.bitfiles more deleted

@@ -6,7 +6,7 @@ use Rattle.dm_tables.specs.Rows.{EachRow}
 use Rattle.dm_durable.specs.declared.daemon.DaemonRecord.{DaemonRecord}
 use Rattle.dm_durable.specs.declared.daemon.DaemonTables.{DaemonTables}
 use Rattle.dm_durable.specs.declared.daemon.Entry.{Entry}
-use Rattle.dm_durable.specs.Tables.{Numbered}
+use Rattle.dm_durable.specs.Tables.{ByNumber}
 use Rattle.dm_durable.specs.Daemon.{after_record}
 use Rattle.dm_model.specs.DaemonShare.{requests_after_step}
 use Rattle.dm_model.specs.Effects.{history_after_step}
@@ -27,7 +27,7 @@ use Rattle.dm_landing.proofs.FatesRequests.{request_go, asked_go, content_go}
 use Rattle.dm_landing.proofs.FilesWith.{NamedIn}
 use Rattle.dm_landing.proofs.RequestsLanded.{was_request, is_request, after_step_live}
 
-module _ (d : Daemon) (h : History) (sides : Numbered Side) (r : DaemonRecord) (files : FilesKept d.tables h.contents d.cap)
+module _ (d : Daemon) (h : History) (sides : ByNumber Side) (r : DaemonRecord) (files : FilesKept d.tables h.contents d.cap)
     (may : MayLand d.tables d.requests h.contents d.cap sides r) where
   abbrev New : DaemonTables
   New = after_record d.tables r
@@ -89,7 +89,7 @@ module _ (d : Daemon) (h : History) (sides : Numbered Side) (r : DaemonRecord) (
       }
 
   -- and recalls
-  pub recalls_landed : (workers : Numbered Worker) → RequestsKept d.requests d.next_request d.tables.inodes d.tables.entries h.contents
+  pub recalls_landed : (workers : ByNumber Worker) → RequestsKept d.requests d.next_request d.tables.inodes d.tables.entries h.contents
       → RecallsKept workers d.requests d.tables.entries h.contents
       → RecallsKept workers (requests_after_step d r.step) New.entries (history_after_step d r.step h).contents
   recalls_landed workers requests kept = record {

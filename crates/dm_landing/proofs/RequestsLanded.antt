@@ -11,7 +11,7 @@ use Rattle.dm_tables.specs.Rows.{EachRow, adjust}
 use Rattle.dm_tables.proofs.Orders.{numbers, same_or}
 use Rattle.dm_tables.proofs.Rows.{get-beside, removed-beside, one_row}
 use Rattle.dm_tables.proofs.Adjusted.{adjusted_row, adjusted-beside, get-mapped, each-map}
-use Rattle.dm_durable.specs.Tables.{Numbered}
+use Rattle.dm_durable.specs.Tables.{ByNumber}
 use Rattle.dm_durable.specs.Daemon.{number_or, after_remove, after_begin_put, after_begin_put_at, after_release, after_restore, after_step}
 use Rattle.dm_durable.specs.DaemonConditions.{MayBeMade, MayBeginPut, MayRelease, MayTake, MayRestore, MayStep}
 use Rattle.dm_durable.specs.Dumps.{file_in}
@@ -35,7 +35,7 @@ use Rattle.dm_invariant.specs.Reservations.{PutOf}
 -- ---- what is noted
 
 -- a request after a step was there before it, but for the change that it found; none comes to be as if none was found
-pub record WasRequest (requests : Numbered OpenRequest) (k : ℕ) (r : OpenRequest) : Type 0 where
+pub record WasRequest (requests : ByNumber OpenRequest) (k : ℕ) (r : OpenRequest) : Type 0 where
   pub found : Option ℕ
   pub is : map.get requests k ≡ Some (record r { found = found })
   pub unfound : r.found ≡ None → found ≡ None
@@ -44,10 +44,10 @@ unfound_of : (b : Bool) (change : ℕ) (found : Option ℕ) → cond b (Some cha
 unfound_of true change found e = absurd (cc)
 unfound_of false change found e = (refl, e)
 
-same_requests : (requests : Numbered OpenRequest) → EachRow requests (WasRequest requests)
+same_requests : (requests : ByNumber OpenRequest) → EachRow requests (WasRequest requests)
 same_requests requests = λ k r e. record { found = r.found; is = e; unfound = λ u. u }
 
-noted_was : (requests : Numbered OpenRequest) (change : ℕ) (name : Option Ino) → EachRow (with_change_on requests change name) (WasRequest requests)
+noted_was : (requests : ByNumber OpenRequest) (change : ℕ) (name : Option Ino) → EachRow (with_change_on requests change name) (WasRequest requests)
 noted_was requests change None = same_requests requests
 noted_was requests change (Some n) =
     each-map numbers (WasRequest requests) (λ k. with_change n.0 change) requests
@@ -71,11 +71,11 @@ was_request d Restart = same_requests d.requests
 was_request d (Age age) = same_requests d.requests
 
 -- a request is there after a step, but for the change that it finds
-pub record IsRequest (requests : Numbered OpenRequest) (k : ℕ) (r : OpenRequest) : Type 0 where
+pub record IsRequest (requests : ByNumber OpenRequest) (k : ℕ) (r : OpenRequest) : Type 0 where
   pub found : Option ℕ
   pub is : map.get requests k ≡ Some (record r { found = found })
 
-noted_is : (requests : Numbered OpenRequest) (change : ℕ) (name : Option Ino) → EachRow requests (IsRequest (with_change_on requests change name))
+noted_is : (requests : ByNumber OpenRequest) (change : ℕ) (name : Option Ino) → EachRow requests (IsRequest (with_change_on requests change name))
 noted_is requests change None = λ k r e. record { found = r.found; is = e }
 noted_is requests change (Some n) = λ k r e. record {
   found = cond (nat_eq r.ino.0 n.0) (Some change) r.found;
@@ -112,7 +112,7 @@ put_was_open d s b put =
     record { number = put.number; request = record put.request { found = was.found }; is = was.is; put = put.put; same = put.same }
 
 -- a request that found no change is not on the inode that was changed
-noted_apart : (requests : Numbered OpenRequest) (change : ℕ) (n : Ino)
+noted_apart : (requests : ByNumber OpenRequest) (change : ℕ) (n : Ino)
     → EachRow (with_change_on requests change (Some n)) (λ k r. r.found ≡ None → r.ino.0 ≡ n.0 → ⊥)
 noted_apart requests change n =
     each-map numbers (λ k r. r.found ≡ None → r.ino.0 ≡ n.0 → ⊥) (λ k. with_change n.0 change) requests
@@ -121,22 +121,22 @@ noted_apart requests change n =
 -- ---- files that were not changed
 
 -- a request that found no change has its file as it was
-pub record StillLive (requests : Numbered OpenRequest) (inodes : Numbered Inode) : Type 0 where
+pub record StillLive (requests : ByNumber OpenRequest) (inodes : ByNumber Inode) : Type 0 where
   pub puts : EachRow requests (λ k r. is_put r.kind ≡ true → r.found ≡ None → LivePut inodes r.ino.0 r.was r.bfid)
   pub recalls : EachRow requests (λ k r. is_recall r.kind ≡ true → r.found ≡ None → LiveRecall inodes r.ino.0 r.was r.bfid)
 
 -- only the inode of one number may change
-abbrev OthersStay : ℕ → Numbered Inode → Numbered Inode → Type 0
+abbrev OthersStay : ℕ → ByNumber Inode → ByNumber Inode → Type 0
 OthersStay n old new = (q : ℕ) → (q ≡ n → ⊥) → map.get new q ≡ map.get old q
 
-live_put_on : (old new : Numbered Inode) (q was : ℕ) (b : Bfid) → map.get new q ≡ map.get old q → LivePut old q was b → LivePut new q was b
+live_put_on : (old new : ByNumber Inode) (q was : ℕ) (b : Bfid) → map.get new q ≡ map.get old q → LivePut old q was b → LivePut new q was b
 live_put_on old new q was b same live = record { bytes = live.bytes; is = same ∙ live.is }
 
-live_recall_on : (old new : Numbered Inode) (q was : ℕ) (b : Bfid) → map.get new q ≡ map.get old q → LiveRecall old q was b → LiveRecall new q was b
+live_recall_on : (old new : ByNumber Inode) (q was : ℕ) (b : Bfid) → map.get new q ≡ map.get old q → LiveRecall old q was b → LiveRecall new q was b
 live_recall_on old new q was b same live = record { inode = live.inode; is = same ∙ live.is; change = live.change; form = live.form }
 
 -- a request on the inode that changes keeps its file, or there is none
-still_live : (requests later : Numbered OpenRequest) (old new : Numbered Inode) (n : ℕ) → StillLive requests old → EachRow later (WasRequest requests)
+still_live : (requests later : ByNumber OpenRequest) (old new : ByNumber Inode) (n : ℕ) → StillLive requests old → EachRow later (WasRequest requests)
     → OthersStay n old new
     → EachRow later (λ k r. is_put r.kind ≡ true → r.found ≡ None → r.ino.0 ≡ n → LivePut new r.ino.0 r.was r.bfid)
     → EachRow later (λ k r. is_recall r.kind ≡ true → r.found ≡ None → r.ino.0 ≡ n → LiveRecall new r.ino.0 r.was r.bfid) → StillLive later new
@@ -159,7 +159,7 @@ still_live requests later old new n live was others puts recalls = record {
 }
 
 -- the inode of one number changes, and no request that found no change is on it
-still_apart : (requests later : Numbered OpenRequest) (old new : Numbered Inode) (n : ℕ) → StillLive requests old
+still_apart : (requests later : ByNumber OpenRequest) (old new : ByNumber Inode) (n : ℕ) → StillLive requests old
     → EachRow later (WasRequest requests) → OthersStay n old new
     → EachRow later (λ k r. r.found ≡ None → r.ino.0 ≡ n → ⊥) → StillLive later new
 still_apart requests later old new n live was others none =
@@ -168,11 +168,11 @@ still_apart requests later old new n live was others none =
 
 -- ---- a step of each kind
 
-change_of : (old new : Numbered Inode) (n : ℕ) (i : Inode) → new ≡ map.insert old n i → OthersStay n old new
+change_of : (old new : ByNumber Inode) (n : ℕ) (i : Inode) → new ≡ map.insert old n i → OthersStay n old new
 change_of old new n i is = λ q differ. ap (λ m. map.get m q) is ∙ get-beside numbers old n i q differ
 
 -- the number of a new inode is above each that is there
-fresh_apart : (t : DaemonTables) (requests : Numbered OpenRequest) (change : ℕ) → EachRow t.inodes (λ n i. n ≤ t.change)
+fresh_apart : (t : DaemonTables) (requests : ByNumber OpenRequest) (change : ℕ) → EachRow t.inodes (λ n i. n ≤ t.change)
     → change ≡ t.change + 1 → StillLive requests t.inodes
     → EachRow requests (λ k r. is_put r.kind ≡ true → r.found ≡ None → r.ino.0 ≡ change → ⊥)
     × EachRow requests (λ k r. is_recall r.kind ≡ true → r.found ≡ None → r.ino.0 ≡ change → ⊥)
@@ -188,7 +188,7 @@ fresh_apart t requests change limits next live = (
 )
 
 -- the file of a path, or a new one, is written
-live_written_at : (t : DaemonTables) (requests : Numbered OpenRequest) (change : ℕ) (bytes : List ℕ) (name : Option Ino)
+live_written_at : (t : DaemonTables) (requests : ByNumber OpenRequest) (change : ℕ) (bytes : List ℕ) (name : Option Ino)
     → EachRow t.inodes (λ n i. n ≤ t.change) → change ≡ t.change + 1 → StillLive requests t.inodes
     → StillLive (with_change_on requests change name) (map.insert t.inodes (number_or name change) (record { change = change; contents = Regular bytes }))
 live_written_at t requests change bytes None limits next live =
@@ -201,7 +201,7 @@ live_written_at t requests change bytes (Some n) limits next live =
     (noted_apart requests change n)
 
 -- the file of a path is removed
-live_removed_at : (t : DaemonTables) (requests : Numbered OpenRequest) (path : List ℕ) (change : ℕ) (name : Option Ino) → StillLive requests t.inodes
+live_removed_at : (t : DaemonTables) (requests : ByNumber OpenRequest) (path : List ℕ) (change : ℕ) (name : Option Ino) → StillLive requests t.inodes
     → StillLive (with_change_on requests change name) (after_remove t path change name).inodes
 live_removed_at t requests path change None live = live
 live_removed_at t requests path change (Some n) live =
@@ -209,11 +209,11 @@ live_removed_at t requests path change (Some n) live =
     (λ q differ. removed-beside numbers t.inodes n.0 q differ) (noted_apart requests change n)
 
 -- the inode of a put that found no change is being made into its bitfile
-making_put : (inodes : Numbered Inode) (n was : ℕ) (b : Bfid) (i : Inode) → map.get inodes n ≡ Some i → LivePut inodes n was b
+making_put : (inodes : ByNumber Inode) (n was : ℕ) (b : Bfid) (i : Inode) → map.get inodes n ≡ Some i → LivePut inodes n was b
     → (bytes : List ℕ) × (i.contents ≡ Making bytes b)
 making_put inodes n was b i is live = (live.bytes, ap (λ (x : Inode). x.contents) (one_row inodes n n _ _ refl is live.is))
 
-stored_recall : (inodes : Numbered Inode) (n was : ℕ) (b : Bfid) (i : Inode) → map.get inodes n ≡ Some i → LiveRecall inodes n was b
+stored_recall : (inodes : ByNumber Inode) (n was : ℕ) (b : Bfid) (i : Inode) → map.get inodes n ≡ Some i → LiveRecall inodes n was b
     → IsStoredAs i.contents b
 stored_recall inodes n was b i is live =
     subst (λ (x : Inode). IsStoredAs x.contents b) (one_row inodes n n _ _ refl live.is is) live.form
@@ -225,7 +225,7 @@ not_both (Dual bytes c) b may has = may
 not_both (Offline len c) b may has = may
 
 -- a put begins on a file that no put is open of
-begun_live : (t : DaemonTables) (requests : Numbered OpenRequest) (time : Secs) (path : List ℕ) (b : Bfid) (groups : List GroupId)
+begun_live : (t : DaemonTables) (requests : ByNumber OpenRequest) (time : Secs) (path : List ℕ) (b : Bfid) (groups : List GroupId)
     → MayBeginPut t path b groups → NotBeingMade t requests path → StillLive requests t.inodes
     → StillLive requests (after_begin_put_at (record t { time = time }) b groups (map.get t.names path)).inodes
 begun_live t requests time path b groups may idle live =
@@ -243,7 +243,7 @@ begun_live t requests time path b groups may idle live =
     absurd (not_both may.inode.contents r.bfid may.form (stored_recall t.inodes n r.was r.bfid may.inode may.is at)))
 
 -- a put ends of which no request is open
-ended_live : (inodes : Numbered Inode) (requests : Numbered OpenRequest) (n : ℕ) (b : Bfid) (dual : Bool) (i : Inode) (bytes : List ℕ)
+ended_live : (inodes : ByNumber Inode) (requests : ByNumber OpenRequest) (n : ℕ) (b : Bfid) (dual : Bool) (i : Inode) (bytes : List ℕ)
     → map.get inodes n ≡ Some i → i.contents ≡ Making bytes b → NoPutOf requests b.0 → StillLive requests inodes
     → StillLive requests (adjust inodes n (with_contents (as_ended dual)))
 ended_live inodes requests n b dual i bytes is form none live =
@@ -269,7 +269,7 @@ not_making (Dual old c) bytes b d has is = absurd (cc)
 not_making (Offline len c) bytes b d has is = absurd (cc)
 
 -- an inode that keeps its bitfile on the volumes takes another form
-reformed_live : (inodes : Numbered Inode) (requests : Numbered OpenRequest) (n : ℕ) (f : Contents → Contents) (i : Inode) (d : Bfid)
+reformed_live : (inodes : ByNumber Inode) (requests : ByNumber OpenRequest) (n : ℕ) (f : Contents → Contents) (i : Inode) (d : Bfid)
     → map.get inodes n ≡ Some i → IsStoredAs i.contents d
     → ((b : Bfid) → IsStoredAs i.contents b → IsStoredAs (f i.contents) b) → StillLive requests inodes
     → StillLive requests (adjust inodes n (with_contents f))
@@ -302,7 +302,7 @@ recall_keeps bytes (Making old c) b has = has
 recall_keeps bytes (Dual old c) b has = has
 recall_keeps bytes (Offline len c) b has = has
 
-released_live : (t : DaemonTables) (requests : Numbered OpenRequest) (time : Secs) (path : List ℕ) → MayRelease t path → StillLive requests t.inodes
+released_live : (t : DaemonTables) (requests : ByNumber OpenRequest) (time : Secs) (path : List ℕ) → MayRelease t path → StillLive requests t.inodes
     → StillLive requests (after_release (record t { time = time }) (map.get t.names path)).inodes
 released_live t requests time path may live =
     let n : ℕ = may.n.0 in
@@ -312,7 +312,7 @@ released_live t requests time path may live =
     subst (λ o. StillLive requests (after_release later o).inodes) (sym is)
     (reformed_live t.inodes requests n as_offline may.inode may.b may.is has (release_keeps may.inode.contents) live)
 
-taken_live : (t : DaemonTables) (requests : Numbered OpenRequest) (n : ℕ) (bytes : List ℕ) → MayTake t n bytes → StillLive requests t.inodes
+taken_live : (t : DaemonTables) (requests : ByNumber OpenRequest) (n : ℕ) (bytes : List ℕ) → MayTake t n bytes → StillLive requests t.inodes
     → StillLive requests (adjust t.inodes n (with_contents (as_recalled bytes)))
 taken_live t requests n bytes may live =
     let has : IsStoredAs may.inode.contents may.b = subst (λ c. IsStoredAs c may.b) (sym may.form) refl in
@@ -325,7 +325,7 @@ pub restored_found : (t : DaemonTables) (now : ℕ) (name path target : List ℕ
     → file_in (map.get t.dumps name) path ≡ Some may.file
 restored_found t now name path target change may = ap (λ o. file_in o path) may.known ∙ may.has
 
-restored_live : (t : DaemonTables) (requests : Numbered OpenRequest) (time : Secs) (target : List ℕ) (change : ℕ) (file : DumpInode)
+restored_live : (t : DaemonTables) (requests : ByNumber OpenRequest) (time : Secs) (target : List ℕ) (change : ℕ) (file : DumpInode)
     → EachRow t.inodes (λ n i. n ≤ t.change) → change ≡ t.change + 1 → StillLive requests t.inodes
     → StillLive requests (after_restore (record t { time = time }) target change (Some file)).inodes
 restored_live t requests time target change file limits next live =
@@ -333,7 +333,7 @@ restored_live t requests time target change file limits next live =
     still_live requests requests t.inodes _ change live (same_requests requests) (change_of t.inodes _ change _ refl)
     (λ k r e kind u same. absurd (none.0 k r e kind u same)) (λ k r e kind u same. absurd (none.1 k r e kind u same))
 
-restored_live_at : (t : DaemonTables) (requests : Numbered OpenRequest) (time : Secs) (name path target : List ℕ) (change : ℕ)
+restored_live_at : (t : DaemonTables) (requests : ByNumber OpenRequest) (time : Secs) (name path target : List ℕ) (change : ℕ)
     → EachRow t.inodes (λ n i. n ≤ t.change) → MayRestore t time.0 name path target change → StillLive requests t.inodes
     → StillLive requests (after_restore (record t { time = time }) target change (file_in (map.get t.dumps name) path)).inodes
 restored_live_at t requests time name path target change limits may live =
@@ -344,7 +344,7 @@ restored_live_at t requests time name path target change limits may live =
 -- ---- any step
 
 -- a request that found no change has its file as it was, after a step that may land
-pub after_step_live : (d : Daemon) (contents : Numbered (List ℕ)) (sides : Numbered Side) (time : Secs) (s : DaemonStep)
+pub after_step_live : (d : Daemon) (contents : ByNumber (List ℕ)) (sides : ByNumber Side) (time : Secs) (s : DaemonStep)
     → EachRow d.tables.inodes (λ n i. n ≤ d.tables.change) → MayStep d.tables time.0 s
     → StepNeeds d.tables d.requests contents d.cap sides s → StillLive d.requests d.tables.inodes
     → StillLive (requests_after_step d s) (after_step (record d.tables { time = time }) s).inodes

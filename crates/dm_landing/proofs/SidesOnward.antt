@@ -9,7 +9,7 @@ use Rattle.dm_durable.specs.declared.group.GroupRecord.{GroupRecord}
 use Rattle.dm_durable.specs.declared.group.GroupStep.{GroupStep}
 use Rattle.dm_durable.specs.declared.group.GroupStep.TheVariants.{Volume, Commit, Delete, Move, Free, Reuse}
 use Rattle.dm_durable.specs.declared.group.VolumeRow.{VolumeRow}
-use Rattle.dm_durable.specs.Tables.{Numbered, Named}
+use Rattle.dm_durable.specs.Tables.{ByNumber, ByName}
 use Rattle.dm_durable.specs.Entries.{asks, has_stored}
 use Rattle.dm_model.specs.declared.state.CopyState.{CopyState}
 use Rattle.dm_model.specs.declared.state.Image.{Image}
@@ -31,8 +31,8 @@ use Rattle.dm_invariant.specs.Reservations.{PutOf, CopyKept}
 use Rattle.dm_invariant.proofs.Options.{same_row, none_some, there_as, value_of, has_value, none_there}
 use Rattle.dm_landing.proofs.Fates.{EntriesGo, fate_there, fate_steady, fate_stored}
 
-module _ (IsNamed : ℕ → Type 0) (sides : Numbered Side) (requests later : Numbered OpenRequest) (now age : ℕ) (IsFresh : ℕ → Entry → Type 0)
-    (old new : Numbered Entry) (contents after : Numbered (List ℕ)) (taken more_taken : Numbered (Unit {0}))
+module _ (IsNamed : ℕ → Type 0) (sides : ByNumber Side) (requests later : ByNumber OpenRequest) (now age : ℕ) (IsFresh : ℕ → Entry → Type 0)
+    (old new : ByNumber Entry) (contents after : ByNumber (List ℕ)) (taken more_taken : ByNumber (Unit {0}))
     (go : EntriesGo IsNamed sides requests now age IsFresh old new)
     (fresh : (b : ℕ) (f : Entry) → IsFresh b f → (map.get contents b ≡ None) × ((g : ℕ) → has_stored f g ≡ false))
     (more : EachRow contents (λ b bytes. map.get after b ≡ Some bytes))
@@ -102,7 +102,7 @@ module _ (IsNamed : ℕ → Type 0) (sides : Numbered Side) (requests later : Nu
         | inr new ↦ let never = (fresh b f new).1 g in cc
       ]
 
-  commits_onward : (g : ℕ) (s : Side) (committed : Numbered (Unit {0}))
+  commits_onward : (g : ℕ) (s : Side) (committed : ByNumber (Unit {0}))
       → EachRow committed (λ b u. (e : Entry) → map.get old b ≡ Some e → e.dropping ≡ false → IsSome (map.get s.group.tables.bitfiles b))
       → EachRow committed (λ b u. IsSome (map.get contents b))
       → EachRow committed (λ b u. (f : Entry) → map.get new b ≡ Some f → f.dropping ≡ false → IsSome (map.get s.group.tables.bitfiles b))
@@ -112,7 +112,7 @@ module _ (IsNamed : ℕ → Type 0) (sides : Numbered Side) (requests later : Nu
         | inr new ↦ absurd (none_there (map.get contents b) (fresh b f new).0 (made b u is))
       ]
 
-  catalogue_onward : (g : ℕ) (s : Side) (committed deleted : Numbered (Unit {0})) → map.get sides g ≡ Some s
+  catalogue_onward : (g : ℕ) (s : Side) (committed deleted : ByNumber (Unit {0})) → map.get sides g ≡ Some s
       → CatalogueKept g old contents taken s.group.tables.volumes s.images s.group.tables.bitfiles committed deleted
       → CatalogueKept g new after more_taken s.group.tables.volumes s.images s.group.tables.bitfiles committed deleted
   catalogue_onward g s committed deleted side k = record {
@@ -133,7 +133,7 @@ module _ (IsNamed : ℕ → Type 0) (sides : Numbered Side) (requests later : Nu
       let lasting = ap (λ x. x.dropping) (sym one) ∙ kept.lasting in
       cc
 
-  copy_onward : (g : ℕ) (reservations : Numbered Reserved) (b : ℕ) (c : CopyState) → EachRow requests (λ k r. RequestEntry old r)
+  copy_onward : (g : ℕ) (reservations : ByNumber Reserved) (b : ℕ) (c : CopyState) → EachRow requests (λ k r. RequestEntry old r)
       → ((k b : ℕ) → PutOf requests k b → PutOf later k b) → CopyKept g old contents requests reservations b c
       → CopyKept g new after later reservations b c
   copy_onward g reservations b c entries puts k =
@@ -148,7 +148,7 @@ module _ (IsNamed : ℕ → Type 0) (sides : Numbered Side) (requests later : Nu
 
   -- ---- chunks under mounts, and moves
 
-  once_onward : (volumes : Named VolumeRow) (images : Named Image) (reservations : Numbered Reserved) (moves : Numbered Moving) (epoch b : ℕ) (c : Chunk)
+  once_onward : (volumes : ByName VolumeRow) (images : ByName Image) (reservations : ByNumber Reserved) (moves : ByNumber Moving) (epoch b : ℕ) (c : Chunk)
       → OnceLive contents volumes images reservations moves epoch b c → OnceLive after volumes images reservations moves epoch b c
   once_onward volumes images reservations moves epoch b c k = record {
     volume = k.volume;
@@ -168,7 +168,7 @@ module _ (IsNamed : ℕ → Type 0) (sides : Numbered Side) (requests later : Nu
         };
   }
 
-  mount_onward : (volumes : Named VolumeRow) (images : Named Image) (reservations : Numbered Reserved) (moves : Numbered Moving) (epoch : ℕ) (o : Origin)
+  mount_onward : (volumes : ByName VolumeRow) (images : ByName Image) (reservations : ByNumber Reserved) (moves : ByNumber Moving) (epoch : ℕ) (o : Origin)
       → MountOnce contents volumes images reservations moves epoch o → MountOnce after volumes images reservations moves epoch o
   mount_onward volumes images reservations moves epoch (origin.New listed format) k = k
   mount_onward volumes images reservations moves epoch (origin.Piece b index p chunk) k = k
@@ -181,7 +181,7 @@ module _ (IsNamed : ℕ → Type 0) (sides : Numbered Side) (requests later : Nu
   read_onward b c None k = k
   read_onward b c (Some bytes) k = record { whole = k.whole; content = more b k.whole k.content; len = k.len; part = k.part }
 
-  move_onward : (volumes : Named VolumeRow) (tips : Named ℕ) (images : Named Image) (mounts : Numbered MountState) (job : ℕ) (x : Moving)
+  move_onward : (volumes : ByName VolumeRow) (tips : ByName ℕ) (images : ByName Image) (mounts : ByNumber MountState) (job : ℕ) (x : Moving)
       → MoveKept contents volumes tips images mounts job x → MoveKept after volumes tips images mounts job x
   move_onward volumes tips images mounts job x k = record {
     source = k.source;
@@ -199,7 +199,7 @@ module _ (IsNamed : ℕ → Type 0) (sides : Numbered Side) (requests later : Nu
 
   -- ---- steps in doubt
 
-  puts_onward : (g : ℕ) (s : Side) (deleted : Numbered (Unit {0})) (b : ℕ) (IsNew : Chunk → Type 0)
+  puts_onward : (g : ℕ) (s : Side) (deleted : ByNumber (Unit {0})) (b : ℕ) (IsNew : Chunk → Type 0)
       → (EachRow sides (λ g s. NotInGroup b s) → ⊥)
       → PutNeeds g old contents s.images s.group.tables.volumes s.group.tips deleted b IsNew
       → PutNeeds g new after s.images s.group.tables.volumes s.group.tips deleted b IsNew
@@ -212,7 +212,7 @@ module _ (IsNamed : ℕ → Type 0) (sides : Numbered Side) (requests later : Nu
         undeleted = k.undeleted;
       }
 
-  needs_onward : (g : ℕ) (s : Side) (deleted : Numbered (Unit {0})) (time : ℕ) (step : GroupStep)
+  needs_onward : (g : ℕ) (s : Side) (deleted : ByNumber (Unit {0})) (time : ℕ) (step : GroupStep)
       → ((b : ℕ) → PutsBitfile b step → EachRow sides (λ g s. NotInGroup b s) → ⊥)
       → GroupStepNeeds g old contents taken deleted s time step → GroupStepNeeds g new after more_taken deleted s time step
   unfolding puts_onward
@@ -228,7 +228,7 @@ module _ (IsNamed : ℕ → Type 0) (sides : Numbered Side) (requests later : Nu
   needs_onward g s deleted time (Free vsn) lasting k = k
   needs_onward g s deleted time (Reuse vsn epoch version) lasting k = k
 
-  doubt_onward : (g : ℕ) (s : Side) (deleted : Numbered (Unit {0})) (o : Option GroupRecord) → map.get sides g ≡ Some s → s.group.doubt ≡ o
+  doubt_onward : (g : ℕ) (s : Side) (deleted : ByNumber (Unit {0})) (o : Option GroupRecord) → map.get sides g ≡ Some s → s.group.doubt ≡ o
       → GroupMayLandIf g old contents taken deleted s o → GroupMayLandIf g new after more_taken deleted s o
   doubt_onward g s deleted None side is k = k
   doubt_onward g s deleted (Some r) side is k = record {
@@ -239,7 +239,7 @@ module _ (IsNamed : ℕ → Type 0) (sides : Numbered Side) (requests later : Nu
   }
 
   -- the whole side keeps it
-  pub side_onward : (g : ℕ) (committed deleted : Numbered (Unit {0})) (s : Side) → map.get sides g ≡ Some s
+  pub side_onward : (g : ℕ) (committed deleted : ByNumber (Unit {0})) (s : Side) → map.get sides g ≡ Some s
       → EachRow requests (λ k r. RequestEntry old r) → ((k b : ℕ) → PutOf requests k b → PutOf later k b)
       → SideKept old contents taken requests g committed deleted s → SideKept new after more_taken later g committed deleted s
   side_onward g committed deleted s side entries puts k = record {

@@ -19,7 +19,7 @@ use Rattle.dm_durable.specs.declared.daemon.DaemonTables.{DaemonTables}
 use Rattle.dm_durable.specs.declared.daemon.DumpInode.{DumpInode}
 use Rattle.dm_durable.specs.declared.daemon.Entry.{Entry}
 use Rattle.dm_durable.specs.declared.daemon.Inode.{Inode}
-use Rattle.dm_durable.specs.Tables.{Numbered}
+use Rattle.dm_durable.specs.Tables.{ByNumber}
 use Rattle.dm_durable.specs.Inodes.{bitfile_of, bytes_online}
 use Rattle.dm_durable.specs.Entries.{after_letting_go_if, as_dropping, new_entry, with_copy_of, with_deletion_time, without_deletion_time}
 use Rattle.dm_durable.specs.Dumps.{bitfile_dumped, file_in}
@@ -38,27 +38,27 @@ use Rattle.dm_landing.proofs.FilesBegun.{next_free}
 use Rattle.dm_landing.proofs.NamedRows.{given_longer}
 
 -- whether an entry is being dropped stays what it was
-abbrev EachDropping : (ℕ → Bool → Type 0) → Numbered Entry → Type 0
+abbrev EachDropping : (ℕ → Bool → Type 0) → ByNumber Entry → Type 0
 EachDropping P entries = EachRow entries (λ b e. P b e.dropping)
 
 module _ (P : ℕ → Bool → Type 0) where
-  stays_or_goes : (entries : Numbered Entry) (inodes : Numbered Inode) (time : ℕ) (o : Option ℕ) (b : ℕ) (e f : Entry) → P b e.dropping
+  stays_or_goes : (entries : ByNumber Entry) (inodes : ByNumber Inode) (time : ℕ) (o : Option ℕ) (b : ℕ) (e f : Entry) → P b e.dropping
       → StaysOrGoes inodes time o b e f → P b f.dropping
   stays_or_goes entries inodes time o b e f was (inl same) = subst (λ x. P b x.dropping) (sym same) was
   stays_or_goes entries inodes time o b e f was (inr gone) = subst (λ x. P b x.dropping) (sym gone.2) was
 
-  each_let_go : (entries : Numbered Entry) (inodes : Numbered Inode) (time : ℕ) (o : Option ℕ) → EachDropping P entries
+  each_let_go : (entries : ByNumber Entry) (inodes : ByNumber Inode) (time : ℕ) (o : Option ℕ) → EachDropping P entries
       → EachDropping P (after_letting_go_if entries inodes time o)
   each_let_go entries inodes time o each = λ b f is.
       let was = let_go-row entries inodes time o b f is in
       stays_or_goes entries inodes time o b was.0 f (each b was.0 was.1) was.2
 
-  each_changed : (entries : Numbered Entry) (b : ℕ) (f : Entry → Entry) → ((e : Entry) → (f e).dropping ≡ e.dropping) → EachDropping P entries
+  each_changed : (entries : ByNumber Entry) (b : ℕ) (f : Entry → Entry) → ((e : Entry) → (f e).dropping ≡ e.dropping) → EachDropping P entries
       → EachDropping P (adjust entries b f)
   each_changed entries b f same each =
       each-adjust numbers (λ q e. P q e.dropping) entries b f (λ e is. subst (λ v. P b v) (sym (same e)) (each b e is)) each
 
-  each_named : (entries : Numbered Entry) (o : Option ℕ) → EachDropping P entries → EachDropping P (with_named entries o)
+  each_named : (entries : ByNumber Entry) (o : Option ℕ) → EachDropping P entries → EachDropping P (with_named entries o)
   each_named entries None each = each
   each_named entries (Some b) each = each_changed entries b without_deletion_time (λ e. refl) each
 
@@ -91,7 +91,7 @@ module _ (P : ℕ → Bool → Type 0) where
 
 -- ---- a hard delete
 
-taken_insert : (taken : Numbered (Unit {0})) (b q : ℕ) → is_some (map.get (map.insert taken b tt) q) ≡ (nat_eq b q || is_some (map.get taken q))
+taken_insert : (taken : ByNumber (Unit {0})) (b q : ℕ) → is_some (map.get (map.insert taken b tt) q) ≡ (nat_eq b q || is_some (map.get taken q))
 taken_insert taken b q =
     elim (same_or numbers b q) [
       | inl same ↦
@@ -114,7 +114,7 @@ or_swap true true c = refl
 or_swap true false c = refl
 or_swap false b c = refl
 
-taken_all : (bfids : List Bfid) (taken : Numbered (Unit {0})) (q : ℕ)
+taken_all : (bfids : List Bfid) (taken : ByNumber (Unit {0})) (q : ℕ)
     → is_some (map.get (with_taken bfids taken) q) ≡ (list_any (λ c. nat_eq c.0 q) bfids || is_some (map.get taken q))
 taken_all [] taken q = refl
 taken_all (b ∷ bs) taken q =
@@ -129,7 +129,7 @@ dropping_or : (taken : Bool) (e : Entry) → (cond taken (as_dropping e) e).drop
 dropping_or true e = refl
 dropping_or false e = refl
 
-taken_given : (site next : ℕ) (entries : Numbered Entry) (bfids : List Bfid) (taken : Numbered (Unit {0}))
+taken_given : (site next : ℕ) (entries : ByNumber Entry) (bfids : List Bfid) (taken : ByNumber (Unit {0}))
     → EachRow entries (λ b e. IsGiven site next b) → ((c : Bfid) → IsAmong c bfids → (e : Entry) × (map.get entries c.0 ≡ Some e))
     → EachRow taken (λ b u. IsGiven site next b) → EachRow (with_taken bfids taken) (λ b u. IsGiven site next b)
 taken_given site next entries [] taken rows there each = each
@@ -148,14 +148,14 @@ module _ (d : Daemon) (h : History) (time : ℕ) (k : FilesKept d.tables h.conte
   Is b v = v ≡ is_some (map.get h.taken b)
 
   -- the counter doesn't turn back
-  with_counter : (entries : Numbered Entry) (counter : ℕ) → d.tables.counter ≤ counter → EachDropping Is entries
+  with_counter : (entries : ByNumber Entry) (counter : ℕ) → d.tables.counter ≤ counter → EachDropping Is entries
       → TakenKept d.tables.site counter entries h.taken
   with_counter entries counter on each = record {
     dropping = each;
     given = λ b u is. given_longer d.tables.site d.tables.counter counter b on (taken.given b u is);
   }
 
-  same_counter : (entries : Numbered Entry) → EachDropping Is entries → TakenKept d.tables.site d.tables.counter entries h.taken
+  same_counter : (entries : ByNumber Entry) → EachDropping Is entries → TakenKept d.tables.site d.tables.counter entries h.taken
   same_counter entries each = with_counter entries d.tables.counter (omega arith) each
 
   same_removed : (path : List ℕ) (change : ℕ) (o : Option Ino)
@@ -235,7 +235,7 @@ module _ (d : Daemon) (h : History) (time : ℕ) (k : FilesKept d.tables h.conte
   taken_step (Age age) may = same_counter _ taken.dropping
 
 -- what hard deletes took is kept by a record that may land
-pub taken_landed : (d : Daemon) (h : History) (sides : Numbered Side) (r : DaemonRecord) → FilesKept d.tables h.contents d.cap
+pub taken_landed : (d : Daemon) (h : History) (sides : ByNumber Side) (r : DaemonRecord) → FilesKept d.tables h.contents d.cap
     → MayLand d.tables d.requests h.contents d.cap sides r → TakenKept d.tables.site d.tables.counter d.tables.entries h.taken
     → TakenKept (after_record d.tables r).site (after_record d.tables r).counter (after_record d.tables r).entries (history_after_step d r.step h).taken
 taken_landed d h sides r k may taken = taken_step d h r.time.0 k taken r.step may.follow.step

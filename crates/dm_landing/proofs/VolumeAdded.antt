@@ -15,7 +15,7 @@ use Rattle.dm_durable.specs.declared.group.GroupStep.TheVariants.{Volume}
 use Rattle.dm_durable.specs.declared.group.VolumeRow.{VolumeRow}
 use Rattle.dm_durable.specs.Group.{new_volume, group_after_record}
 use Rattle.dm_durable.specs.GroupConditions.{MayAdd}
-use Rattle.dm_durable.specs.Tables.{Numbered, Named}
+use Rattle.dm_durable.specs.Tables.{ByNumber, ByName}
 use Rattle.dm_durable.specs.Volumes.{epoch_or, tip_or}
 use Rattle.dm_model.specs.declared.state.Image.{Image}
 use Rattle.dm_model.specs.declared.state.OpenRequest.{OpenRequest}
@@ -35,7 +35,7 @@ use Rattle.dm_landing.proofs.GroupLanding.{landed_as, places_settled, side_as}
 use Rattle.dm_landing.proofs.VolumesOnward.{OnwardAt, OriginOnward, bitfile_onward}
 
 -- what is known of the other volumes stays as one is labelled
-pub labelled_beside : (faithful : List ℕ) (version slot : ℕ) (vsn q : List ℕ) (images : Named Image) → q ≢ vsn
+pub labelled_beside : (faithful : List ℕ) (version slot : ℕ) (vsn q : List ℕ) (images : ByName Image) → q ≢ vsn
     → known_on (images_labelled faithful version slot vsn images) q ≡ known_on images q
 labelled_beside faithful version slot vsn q images differ =
     elim (nat_eq version first_version && not (is_faithful faithful slot)) as
@@ -45,7 +45,7 @@ labelled_beside faithful version slot vsn q images differ =
     ]
 
 -- each origin goes over where every volume that the tables have does
-pub all_origins_onward : (volumes after : Named VolumeRow) (tips tips_after : Named ℕ) (images images_after : Named Image)
+pub all_origins_onward : (volumes after : ByName VolumeRow) (tips tips_after : ByName ℕ) (images images_after : ByName Image)
     → ((q : List ℕ) → OnwardAt volumes after tips tips_after images images_after q) → (made : Origin)
     → OriginOnward volumes after tips tips_after images images_after made
 all_origins_onward volumes after tips tips_after images images_after on (origin.New listed format) = tt
@@ -56,13 +56,13 @@ all_origins_onward volumes after tips tips_after images images_after on (origin.
 all_origins_onward volumes after tips tips_after images images_after on (origin.Reuse next_epoch version reading) = tt
 
 module _ (s : Side) (vsn : List ℕ) (slot version size time : ℕ) where
-  abbrev wider : Named VolumeRow
+  abbrev wider : ByName VolumeRow
   wider = map.insert s.group.tables.volumes vsn (new_volume slot version size)
 
-  abbrev further : Named ℕ
+  abbrev further : ByName ℕ
   further = map.insert s.group.tips vsn first_zone
 
-  abbrev relabelled : Named Image
+  abbrev relabelled : ByName Image
   relabelled = images_labelled s.faithful version slot vsn s.images
 
   -- a volume that was there is another one, and stays
@@ -145,8 +145,8 @@ module _ (s : Side) (vsn : List ℕ) (slot version size time : ℕ) where
   }
 
 -- the side keeps the invariant as a new volume lands
-pub volume_added : (entries : Numbered Entry) (contents : Numbered (List ℕ)) (taken : Numbered (Unit {0})) (requests : Numbered OpenRequest)
-    (g : ℕ) (committed deleted : Numbered (Unit {0})) (s : Side) (time : Secs) (vsn : Vsn) (slot version size : ℕ)
+pub volume_added : (entries : ByNumber Entry) (contents : ByNumber (List ℕ)) (taken : ByNumber (Unit {0})) (requests : ByNumber OpenRequest)
+    (g : ℕ) (committed deleted : ByNumber (Unit {0})) (s : Side) (time : Secs) (vsn : Vsn) (slot version size : ℕ)
     → GroupMayLand g entries contents taken deleted s (record { time = time; step = Volume vsn slot version size })
     → PlacesKept s.group.tables.bitfiles s.group.reservations s.group.moves (Some (record { time = time; step = Volume vsn slot version size }))
     → SideKept entries contents taken requests g committed deleted s

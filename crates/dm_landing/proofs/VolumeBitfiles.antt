@@ -13,7 +13,7 @@ use Rattle.dm_durable.specs.declared.group.GroupRecord.{GroupRecord}
 use Rattle.dm_durable.specs.declared.group.GroupStep.TheVariants.{Delete}
 use Rattle.dm_durable.specs.declared.group.VolumeRow.{VolumeRow}
 use Rattle.dm_durable.specs.Group.{group_after_record}
-use Rattle.dm_durable.specs.Tables.{Numbered, Named}
+use Rattle.dm_durable.specs.Tables.{ByNumber, ByName}
 use Rattle.dm_model.specs.declared.state.Image.{Image}
 use Rattle.dm_model.specs.declared.state.Moving.{Moving}
 use Rattle.dm_model.specs.declared.state.OpenRequest.{OpenRequest}
@@ -30,13 +30,13 @@ use Rattle.dm_landing.proofs.VolumeFreed.{volume_later}
 use Rattle.dm_landing.proofs.VolumesOnward.{OnwardAt}
 
 -- each volume stays where the tables of volumes do
-pub stays_still : (volumes : Named VolumeRow) (tips : Named ℕ) (images : Named Image) (q : List ℕ)
+pub stays_still : (volumes : ByName VolumeRow) (tips : ByName ℕ) (images : ByName Image) (q : List ℕ)
     → OnwardAt volumes volumes tips tips images images q
 stays_still volumes tips images q = λ v is.
     (v, is, record { held = refl; version = refl; epoch = refl; low = omega arith; tip = refl; known = refl })
 
 -- volumes are kept as time goes on
-pub volumes_later : (conf : GroupConf) (before now : ℕ) (volumes : Named VolumeRow) (tips : Named ℕ) → before ≤ now
+pub volumes_later : (conf : GroupConf) (before now : ℕ) (volumes : ByName VolumeRow) (tips : ByName ℕ) → before ≤ now
     → VolumesKept conf before volumes tips → VolumesKept conf now volumes tips
 volumes_later conf before now volumes tips later k = record {
   fits = k.fits;
@@ -45,7 +45,7 @@ volumes_later conf before now volumes tips later k = record {
 }
 
 -- what isn't there isn't there after another was taken out
-pub still_away : (m : Numbered BitfileRow) (b q : ℕ) → map.get m q ≡ None → map.get (map.remove m b) q ≡ None
+pub still_away : (m : ByNumber BitfileRow) (b q : ℕ) → map.get m q ≡ None → map.get (map.remove m b) q ≡ None
 still_away m b q away =
     elim (same_or numbers b q) [
       | inl same ↦ ap (map.get (map.remove m b)) same ∙ removed-here numbers m b
@@ -53,7 +53,7 @@ still_away m b q away =
     ]
 
 -- who has a place had it before a bitfile was taken out
-has_before : (bitfiles : Numbered BitfileRow) (b : ℕ) (reservations : Numbered Reserved) (moves : Numbered Moving)
+has_before : (bitfiles : ByNumber BitfileRow) (b : ℕ) (reservations : ByNumber Reserved) (moves : ByNumber Moving)
     (doubt : Option GroupRecord) (o : Owner) (vsn : List ℕ) (place : ℕ)
     → HasPlace (map.remove bitfiles b) reservations moves doubt o vsn place → HasPlace bitfiles reservations moves doubt o vsn place
 has_before bitfiles b reservations moves doubt (Live c offset) vsn place has = record {
@@ -69,13 +69,13 @@ has_before bitfiles b reservations moves doubt (Target job) vsn place has = has
 has_before bitfiles b reservations moves doubt (Doubted zone) vsn place has = has
 
 -- the bitfile is dropping, since a hard delete took it: so no entry needs it
-is_dropping : (entries : Numbered Entry) (taken : Numbered (Unit {0})) (b : ℕ) (e : Entry)
+is_dropping : (entries : ByNumber Entry) (taken : ByNumber (Unit {0})) (b : ℕ) (e : Entry)
     → EachRow entries (λ b e. e.dropping ≡ is_some (map.get taken b)) → IsSome (map.get taken b) → map.get entries b ≡ Some e
     → e.dropping ≡ false → ⊥
 is_dropping entries taken b e dropping took is lasting = let d = sym lasting ∙ dropping b e is ∙ took in cc
 
 -- what an entry that isn't dropping needs is another one, and stays
-still_needed : (entries : Numbered Entry) (taken : Numbered (Unit {0})) (bitfiles : Numbered BitfileRow) (b q : ℕ) (e : Entry)
+still_needed : (entries : ByNumber Entry) (taken : ByNumber (Unit {0})) (bitfiles : ByNumber BitfileRow) (b q : ℕ) (e : Entry)
     → EachRow entries (λ b e. e.dropping ≡ is_some (map.get taken b)) → IsSome (map.get taken b) → map.get entries q ≡ Some e
     → e.dropping ≡ false → IsSome (map.get bitfiles q) → IsSome (map.get (map.remove bitfiles b) q)
 still_needed entries taken bitfiles b q e dropping took is lasting there =
@@ -85,8 +85,8 @@ still_needed entries taken bitfiles b q e dropping took is lasting there =
     ]
 
 -- the side keeps the invariant as a bitfile is deleted. What is dropping is what a hard delete took
-pub bitfile_deleted : (entries : Numbered Entry) (contents : Numbered (List ℕ)) (taken : Numbered (Unit {0})) (requests : Numbered OpenRequest)
-    (g : ℕ) (committed deleted : Numbered (Unit {0})) (s : Side) (time : Secs) (b : Bfid)
+pub bitfile_deleted : (entries : ByNumber Entry) (contents : ByNumber (List ℕ)) (taken : ByNumber (Unit {0})) (requests : ByNumber OpenRequest)
+    (g : ℕ) (committed deleted : ByNumber (Unit {0})) (s : Side) (time : Secs) (b : Bfid)
     → EachRow entries (λ b e. e.dropping ≡ is_some (map.get taken b))
     → GroupMayLand g entries contents taken deleted s (record { time = time; step = Delete b })
     → PlacesKept s.group.tables.bitfiles s.group.reservations s.group.moves (Some (record { time = time; step = Delete b }))

@@ -1,7 +1,7 @@
 -- Lists of chunks: those that join, and those that lie on volumes.
 use Rattle.std.proofs.Common.{◌≡◌, ◌⊎◌, ◌++◌, inl, inr, ℕ, ◌+◌, ◌≤◌, true, false, cond, nat_eq, Some, List, [], ◌∷◌, refl, sym, subst, arith}
 use Rattle.dm_base.specs.declared.volume.Chunk.{Chunk}
-use Rattle.dm_durable.specs.Tables.{Named}
+use Rattle.dm_durable.specs.Tables.{ByName}
 use Rattle.dm_durable.specs.declared.group.VolumeRow.{VolumeRow}
 use Rattle.dm_durable.specs.GroupConditions.{LiesOn, EachLies, Joins}
 use Rattle.dm_durable.specs.Group.{chunk_at}
@@ -36,7 +36,7 @@ chunk_among offset (d ∷ ds) c e =
     ] e
 
 -- where all lie on volumes, each does
-pub one_lies : (volumes : Named VolumeRow) (chunks : List Chunk) (c : Chunk) → EachLies volumes chunks → IsAmong c chunks → LiesOn volumes c
+pub one_lies : (volumes : ByName VolumeRow) (chunks : List Chunk) (c : Chunk) → EachLies volumes chunks → IsAmong c chunks → LiesOn volumes c
 one_lies volumes [] c lie among = absurd among
 one_lies volumes (d ∷ ds) c lie among =
     elim among [
@@ -45,6 +45,6 @@ one_lies volumes (d ∷ ds) c lie among =
     ]
 
 -- and all do where each does
-pub each_lies : (volumes : Named VolumeRow) (chunks : List Chunk) → ((c : Chunk) → IsAmong c chunks → LiesOn volumes c) → EachLies volumes chunks
+pub each_lies : (volumes : ByName VolumeRow) (chunks : List Chunk) → ((c : Chunk) → IsAmong c chunks → LiesOn volumes c) → EachLies volumes chunks
 each_lies volumes [] each = tt
 each_lies volumes (c ∷ cs) each = (each c (inl refl), each_lies volumes cs (λ d among. each d (inr among)))

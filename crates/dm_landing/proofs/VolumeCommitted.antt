@@ -12,7 +12,7 @@ use Rattle.dm_durable.specs.declared.group.GroupRecord.{GroupRecord}
 use Rattle.dm_durable.specs.declared.group.GroupStep.TheVariants.{Commit}
 use Rattle.dm_durable.specs.Group.{group_after_record, with_ends_behind}
 use Rattle.dm_durable.specs.GroupConditions.{Joins}
-use Rattle.dm_durable.specs.Tables.{Numbered}
+use Rattle.dm_durable.specs.Tables.{ByNumber}
 use Rattle.dm_model.specs.declared.state.Moving.{Moving}
 use Rattle.dm_model.specs.declared.state.OpenRequest.{OpenRequest}
 use Rattle.dm_model.specs.declared.state.Reserved.{Reserved}
@@ -34,13 +34,13 @@ use Rattle.dm_landing.proofs.VolumesOnward.{bitfile_onward}
 
 -- ---- places
 
-module _ (bitfiles : Numbered BitfileRow) (reservations : Numbered Reserved) (moves : Numbered Moving) (time : Secs) (b : Bfid) (len : ℕ)
+module _ (bitfiles : ByNumber BitfileRow) (reservations : ByNumber Reserved) (moves : ByNumber Moving) (time : Secs) (b : Bfid) (len : ℕ)
     (chunks : List Chunk) (inside : (c : Chunk) (vsn : List ℕ) (place : ℕ) → IsAmong c chunks → ChunkCovers c vsn place → ZoneCovers c vsn place)
     (apart : ChunksApart chunks) where
   abbrev committing : Option GroupRecord
   committing = Some (record { time = time; step = Commit b len chunks })
 
-  abbrev more : Numbered BitfileRow
+  abbrev more : ByNumber BitfileRow
   more = map.insert bitfiles b.0 (record { len = len; chunks = chunks })
 
   -- who has a place after a commit had it before: it is no other, or one of the commit's chunks, and was in the zone that this names
@@ -92,7 +92,7 @@ module _ (bitfiles : Numbered BitfileRow) (reservations : Numbered Reserved) (mo
 
 -- ---- the catalogue
 
-bitfile_new : (g : ℕ) (entries : Numbered Entry) (contents : Numbered (List ℕ)) (s : Side) (deleted : Numbered (Unit {0})) (b len : ℕ)
+bitfile_new : (g : ℕ) (entries : ByNumber Entry) (contents : ByNumber (List ℕ)) (s : Side) (deleted : ByNumber (Unit {0})) (b len : ℕ)
     (chunks : List Chunk) → Joins 0 chunks len
     → CommitNeeds g entries contents s.images s.group.tables.volumes s.group.tips deleted s.group.reservations b len chunks
     → ((c : Chunk) → IsAmong c chunks → LiesBefore (with_ends_behind chunks s.group.tables.volumes) c)
@@ -107,8 +107,8 @@ bitfile_new g entries contents s deleted b len chunks joins n lies = record {
 }
 
 -- the side keeps the invariant as a bitfile is committed, which is one more that was ever committed
-pub bitfile_committed : (entries : Numbered Entry) (contents : Numbered (List ℕ)) (taken : Numbered (Unit {0}))
-    (requests : Numbered OpenRequest) (g : ℕ) (committed deleted : Numbered (Unit {0})) (s : Side) (time : Secs) (b : Bfid) (len : ℕ)
+pub bitfile_committed : (entries : ByNumber Entry) (contents : ByNumber (List ℕ)) (taken : ByNumber (Unit {0}))
+    (requests : ByNumber OpenRequest) (g : ℕ) (committed deleted : ByNumber (Unit {0})) (s : Side) (time : Secs) (b : Bfid) (len : ℕ)
     (chunks : List Chunk)
     → GroupMayLand g entries contents taken deleted s (record { time = time; step = Commit b len chunks })
     → PlacesKept s.group.tables.bitfiles s.group.reservations s.group.moves (Some (record { time = time; step = Commit b len chunks }))

@@ -10,7 +10,7 @@ use Rattle.dm_durable.specs.declared.group.VolumeRow.{VolumeRow}
 use Rattle.dm_durable.specs.Group.{with_ends_behind}
 use Rattle.dm_durable.specs.GroupConditions.{LiesOn}
 use Rattle.dm_durable.specs.Limits.{IsPast}
-use Rattle.dm_durable.specs.Tables.{Named}
+use Rattle.dm_durable.specs.Tables.{ByName}
 use Rattle.dm_durable.specs.Volumes.{tip_in, tip_or}
 use Rattle.dm_model.specs.declared.state.Image.{Image}
 use Rattle.dm_invariant.specs.Among.{IsAmong}
@@ -35,17 +35,17 @@ narrow_small : (n size end : ℕ) → n ≤ size → size < 2 ^ 64 → as_word n
 narrow_small n size end within small narrow = omega (arith, within, small, narrow)
 
 -- the size of a configured volume is one
-pub size_small : (conf : GroupConf) (before : ℕ) (volumes : Named VolumeRow) (tips : Named ℕ) → VolumesKept conf before volumes tips
+pub size_small : (conf : GroupConf) (before : ℕ) (volumes : ByName VolumeRow) (tips : ByName ℕ) → VolumesKept conf before volumes tips
     → conf.size < 2 ^ 64
 size_small conf before volumes tips k = let most = k.fits.sized.most in omega (arith, most)
 
 -- each chunk ends before the tip of its volume
-abbrev pub Below : Named VolumeRow → Named ℕ → List Chunk → Type 0
+abbrev pub Below : ByName VolumeRow → ByName ℕ → List Chunk → Type 0
 Below volumes tips chunks =
     (c : Chunk) (v : VolumeRow) → IsAmong c chunks → map.get volumes c.vsn.0 ≡ Some v → c.place + c.len ≤ tip_in tips c.vsn.0 v
 
 -- an end is raised up to the tip at most
-end_below : (volumes : Named VolumeRow) (tips : Named ℕ) (chunks : List Chunk) (vsn : List ℕ) (v w : VolumeRow) → Below volumes tips chunks
+end_below : (volumes : ByName VolumeRow) (tips : ByName ℕ) (chunks : List Chunk) (vsn : List ℕ) (v w : VolumeRow) → Below volumes tips chunks
     → map.get volumes vsn ≡ Some v
     → v.end ≤ tip_in tips vsn v → Raised chunks vsn v w → w.end ≤ tip_in tips vsn v
 end_below volumes tips chunks vsn v w below is end r =
@@ -54,9 +54,9 @@ end_below volumes tips chunks vsn v w below is end r =
     let there : c.place + c.len ≤ tip_in tips vsn v = subst (λ x. c.place + c.len ≤ tip_in tips x v) at low in
     omega (arith, there))
 
-module _ (conf : GroupConf) (before : ℕ) (volumes : Named VolumeRow) (tips : Named ℕ) (images : Named Image) (chunks : List Chunk)
+module _ (conf : GroupConf) (before : ℕ) (volumes : ByName VolumeRow) (tips : ByName ℕ) (images : ByName Image) (chunks : List Chunk)
     (below : Below volumes tips chunks) (k : VolumesKept conf before volumes tips) where
-  abbrev raised : Named VolumeRow
+  abbrev raised : ByName VolumeRow
   raised = with_ends_behind chunks volumes
 
   -- each volume stays, but that it is written further

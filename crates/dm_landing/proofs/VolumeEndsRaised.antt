@@ -7,7 +7,7 @@ use Rattle.dm_tables.specs.Rows.{adjust}
 use Rattle.dm_tables.proofs.Orders.{paths, same_or}
 use Rattle.dm_tables.proofs.Rows.{one_row}
 use Rattle.dm_tables.proofs.Adjusted.{adjust-none, adjusted_row, adjusted-beside}
-use Rattle.dm_durable.specs.Tables.{Named}
+use Rattle.dm_durable.specs.Tables.{ByName}
 use Rattle.dm_durable.specs.Group.{with_ends_behind, with_end_behind}
 use Rattle.dm_durable.specs.declared.group.VolumeRow.{VolumeRow}
 use Rattle.dm_durable.specs.Volumes.{epoch_or}
@@ -72,7 +72,7 @@ raised_beside c cs vsn v w differ r = record {
 }
 
 -- a volume stays, with its end raised
-pub raised_by : (chunks : List Chunk) (volumes : Named VolumeRow) (vsn : List ℕ) (v : VolumeRow) → map.get volumes vsn ≡ Some v
+pub raised_by : (chunks : List Chunk) (volumes : ByName VolumeRow) (vsn : List ℕ) (v : VolumeRow) → map.get volumes vsn ≡ Some v
     → (w : VolumeRow) × (map.get (with_ends_behind chunks volumes) vsn ≡ Some w) × Raised chunks vsn v w
 unfolding with_ends_behind
 raised_by [] volumes vsn v e = (v, e, not_raised vsn v)
@@ -89,12 +89,12 @@ raised_by (c ∷ cs) volumes vsn v e =
     ]
 
 -- where there is no row, none is changed
-none_adjusted : (volumes : Named VolumeRow) (k q : List ℕ) (f : VolumeRow → VolumeRow) → q ≡ k → map.get volumes q ≡ None
+none_adjusted : (volumes : ByName VolumeRow) (k q : List ℕ) (f : VolumeRow → VolumeRow) → q ≡ k → map.get volumes q ≡ None
     → map.get (adjust volumes k f) q ≡ None
 none_adjusted volumes k q f same e = ap (λ m. map.get m q) (adjust-none volumes k f (ap (map.get volumes) (sym same) ∙ e)) ∙ e
 
 -- and none comes
-none_raised : (chunks : List Chunk) (volumes : Named VolumeRow) (vsn : List ℕ) → map.get volumes vsn ≡ None
+none_raised : (chunks : List Chunk) (volumes : ByName VolumeRow) (vsn : List ℕ) → map.get volumes vsn ≡ None
     → map.get (with_ends_behind chunks volumes) vsn ≡ None
 unfolding with_ends_behind
 none_raised [] volumes vsn e = e
@@ -104,7 +104,7 @@ none_raised (c ∷ cs) volumes vsn e =
       | inr differ ↦ adjusted-beside paths volumes c.vsn.0 (with_end_behind c) vsn differ ∙ e
     ])
 
-raised_at : (chunks : List Chunk) (volumes : Named VolumeRow) (vsn : List ℕ) (w : VolumeRow) (o : Option VolumeRow) → map.get volumes vsn ≡ o
+raised_at : (chunks : List Chunk) (volumes : ByName VolumeRow) (vsn : List ℕ) (w : VolumeRow) (o : Option VolumeRow) → map.get volumes vsn ≡ o
     → map.get (with_ends_behind chunks volumes) vsn ≡ Some w → (v : VolumeRow) × (map.get volumes vsn ≡ Some v) × Raised chunks vsn v w
 raised_at chunks volumes vsn w None was e = let f = none_raised chunks volumes vsn was in cc
 raised_at chunks volumes vsn w (Some v) was e =
@@ -112,11 +112,11 @@ raised_at chunks volumes vsn w (Some v) was e =
     (v, was, subst (λ x. Raised chunks vsn v x) (one_row (with_ends_behind chunks volumes) vsn vsn r.0 w refl r.1 e) r.2)
 
 -- a volume that is there was there
-pub raised_from : (chunks : List Chunk) (volumes : Named VolumeRow) (vsn : List ℕ) (w : VolumeRow) → map.get (with_ends_behind chunks volumes) vsn ≡ Some w
+pub raised_from : (chunks : List Chunk) (volumes : ByName VolumeRow) (vsn : List ℕ) (w : VolumeRow) → map.get (with_ends_behind chunks volumes) vsn ≡ Some w
     → (v : VolumeRow) × (map.get volumes vsn ≡ Some v) × Raised chunks vsn v w
 raised_from chunks volumes vsn w e = raised_at chunks volumes vsn w (map.get volumes vsn) refl e
 
-epoch_at : (chunks : List Chunk) (volumes : Named VolumeRow) (vsn : List ℕ) (o : Option VolumeRow) → map.get volumes vsn ≡ o
+epoch_at : (chunks : List Chunk) (volumes : ByName VolumeRow) (vsn : List ℕ) (o : Option VolumeRow) → map.get volumes vsn ≡ o
     → epoch_or (map.get (with_ends_behind chunks volumes) vsn) ≡ epoch_or (map.get volumes vsn)
 epoch_at chunks volumes vsn None was = ap epoch_or (none_raised chunks volumes vsn was ∙ sym was)
 epoch_at chunks volumes vsn (Some v) was =
@@ -124,6 +124,6 @@ epoch_at chunks volumes vsn (Some v) was =
     ap epoch_or r.1 ∙ r.2.epoch ∙ sym (ap epoch_or was)
 
 -- epochs stay
-pub epoch_raised : (chunks : List Chunk) (volumes : Named VolumeRow) (vsn : List ℕ)
+pub epoch_raised : (chunks : List Chunk) (volumes : ByName VolumeRow) (vsn : List ℕ)
     → epoch_or (map.get (with_ends_behind chunks volumes) vsn) ≡ epoch_or (map.get volumes vsn)
 epoch_raised chunks volumes vsn = epoch_at chunks volumes vsn (map.get volumes vsn) refl

@@ -11,7 +11,7 @@ use Rattle.dm_durable.specs.declared.daemon.Entry.{Entry}
 use Rattle.dm_durable.specs.declared.group.GroupStep.TheVariants.{Free}
 use Rattle.dm_durable.specs.declared.group.VolumeRow.{VolumeRow}
 use Rattle.dm_durable.specs.Group.{as_held, group_after_record}
-use Rattle.dm_durable.specs.Tables.{Numbered, Named}
+use Rattle.dm_durable.specs.Tables.{ByNumber, ByName}
 use Rattle.dm_durable.specs.Volumes.{epoch_or, tip_or}
 use Rattle.dm_model.specs.declared.state.OpenRequest.{OpenRequest}
 use Rattle.dm_model.specs.declared.state.Side.{Side}
@@ -24,7 +24,7 @@ use Rattle.dm_landing.proofs.GroupLanding.{landed_as, places_settled, side_as}
 use Rattle.dm_landing.proofs.VolumesOnward.{OnwardAt, bitfile_onward}
 use Rattle.dm_landing.proofs.VolumeUnused.{chunks_elsewhere, slots_adjusted, unused_stays}
 
-pub volume_later : (conf : GroupConf) (tips : Named ℕ) (before now : ℕ) (q : List ℕ) (v : VolumeRow) → before ≤ now
+pub volume_later : (conf : GroupConf) (tips : ByName ℕ) (before now : ℕ) (q : List ℕ) (v : VolumeRow) → before ≤ now
     → VolumeKept conf tips before q v → VolumeKept conf tips now q v
 volume_later conf tips before now q v later k = record {
   configured = k.configured;
@@ -44,7 +44,7 @@ held_tip : (now : ℕ) (tip : Option ℕ) (v : VolumeRow) → tip_or tip (as_hel
 held_tip now None v = refl
 held_tip now (Some t) v = refl
 
-volume_held : (conf : GroupConf) (tips : Named ℕ) (now : ℕ) (q : List ℕ) (v : VolumeRow)
+volume_held : (conf : GroupConf) (tips : ByName ℕ) (now : ℕ) (q : List ℕ) (v : VolumeRow)
     → VolumeKept conf tips now q v → VolumeKept conf tips now q (as_held now v)
 volume_held conf tips now q v k =
     let same = held_tip now (map.get tips q) v in
@@ -62,7 +62,7 @@ volume_held conf tips now q v k =
     }
 
 module _ (s : Side) (vsn : List ℕ) (now : ℕ) where
-  abbrev after : Named VolumeRow
+  abbrev after : ByName VolumeRow
   after = adjust s.group.tables.volumes vsn (as_held now)
 
   -- another volume stays
@@ -81,8 +81,8 @@ module _ (s : Side) (vsn : List ℕ) (now : ℕ) where
   )
 
 -- the side keeps the invariant as a volume is freed
-pub volume_freed : (entries : Numbered Entry) (contents : Numbered (List ℕ)) (taken : Numbered (Unit {0})) (requests : Numbered OpenRequest)
-    (g : ℕ) (committed deleted : Numbered (Unit {0})) (s : Side) (time : Secs) (vsn : Vsn)
+pub volume_freed : (entries : ByNumber Entry) (contents : ByNumber (List ℕ)) (taken : ByNumber (Unit {0})) (requests : ByNumber OpenRequest)
+    (g : ℕ) (committed deleted : ByNumber (Unit {0})) (s : Side) (time : Secs) (vsn : Vsn)
     → GroupMayLand g entries contents taken deleted s (record { time = time; step = Free vsn })
     → PlacesKept s.group.tables.bitfiles s.group.reservations s.group.moves (Some (record { time = time; step = Free vsn }))
     → SideKept entries contents taken requests g committed deleted s

@@ -16,7 +16,7 @@ use Rattle.dm_durable.specs.declared.group.GroupStep.TheVariants.{Move}
 use Rattle.dm_durable.specs.declared.group.VolumeRow.{VolumeRow}
 use Rattle.dm_durable.specs.Group.{chunk_at, chunk_or_moved, group_after_record, with_chunk, with_end_behind, with_ends_behind}
 use Rattle.dm_durable.specs.GroupConditions.{Joins}
-use Rattle.dm_durable.specs.Tables.{Numbered, Named}
+use Rattle.dm_durable.specs.Tables.{ByNumber, ByName}
 use Rattle.dm_durable.specs.Volumes.{epoch_or}
 use Rattle.dm_model.specs.declared.state.Image.{Image}
 use Rattle.dm_model.specs.declared.state.Moving.{Moving}
@@ -118,12 +118,12 @@ moved_among to cs c among =
 
 -- ---- places
 
-module _ (bitfiles : Numbered BitfileRow) (reservations : Numbered Reserved) (moves : Numbered Moving) (time : Secs) (b : Bfid) (from to : Chunk)
+module _ (bitfiles : ByNumber BitfileRow) (reservations : ByNumber Reserved) (moves : ByNumber Moving) (time : Secs) (b : Bfid) (from to : Chunk)
     (inside : (vsn : List ℕ) (place : ℕ) → ChunkCovers to vsn place → ZoneCovers to vsn place) where
   abbrev moving : Option GroupRecord
   moving = Some (record { time = time; step = Move b from to })
 
-  abbrev moved : Numbered BitfileRow
+  abbrev moved : ByNumber BitfileRow
   moved = adjust bitfiles b.0 (with_chunk to)
 
   -- who has a place after a move had it before: it is no other, or was in the move's own zone
@@ -190,7 +190,7 @@ module _ (bitfiles : Numbered BitfileRow) (reservations : Numbered Reserved) (mo
 -- ---- the catalogue
 
 -- what is there is there after one was changed, and what isn't there isn't
-there_adjusted : (m : Numbered BitfileRow) (k : ℕ) (f : BitfileRow → BitfileRow) (q : ℕ) → IsSome (map.get m q) → IsSome (map.get (adjust m k f) q)
+there_adjusted : (m : ByNumber BitfileRow) (k : ℕ) (f : BitfileRow → BitfileRow) (q : ℕ) → IsSome (map.get m q) → IsSome (map.get (adjust m k f) q)
 there_adjusted m k f q there =
     elim (same_or numbers k q) [
       | inl same ↦
@@ -199,7 +199,7 @@ there_adjusted m k f q there =
       | inr differ ↦ ap is_some (adjusted-beside numbers m k f q differ) ∙ there
     ]
 
-away_adjusted : (m : Numbered BitfileRow) (k : ℕ) (f : BitfileRow → BitfileRow) (q : ℕ) → map.get m q ≡ None → map.get (adjust m k f) q ≡ None
+away_adjusted : (m : ByNumber BitfileRow) (k : ℕ) (f : BitfileRow → BitfileRow) (q : ℕ) → map.get m q ≡ None → map.get (adjust m k f) q ≡ None
 away_adjusted m k f q away =
     elim (same_or numbers k q) [
       | inl same ↦ ap (λ t. map.get t q) (adjust-none m k f (ap (map.get m) (sym same) ∙ away)) ∙ away
@@ -207,8 +207,8 @@ away_adjusted m k f q away =
     ]
 
 -- the moved chunk is the same part of the same bitfile
-bitfile_moved : (g : ℕ) (entries : Numbered Entry) (contents : Numbered (List ℕ)) (images : Named Image) (before volumes : Named VolumeRow)
-    (tips : Named ℕ) (deleted : Numbered (Unit {0})) (b : ℕ) (from to : Chunk) (row : BitfileRow)
+bitfile_moved : (g : ℕ) (entries : ByNumber Entry) (contents : ByNumber (List ℕ)) (images : ByName Image) (before volumes : ByName VolumeRow)
+    (tips : ByName ℕ) (deleted : ByNumber (Unit {0})) (b : ℕ) (from to : Chunk) (row : BitfileRow)
     → chunk_at from.offset row.chunks ≡ Some from → to.offset ≡ from.offset → to.len ≡ from.len → LiesBefore volumes to
     → PutNeeds g entries contents images before tips deleted b (λ c. c ≡ to)
     → BitfileKept g entries contents volumes images b row → BitfileKept g entries contents volumes images b (with_chunk to row)
@@ -233,13 +233,13 @@ bitfile_moved g entries contents images before volumes tips deleted b from to ro
     }
 
 -- the end of one volume is raised as those of a list of one are
-raised-one : (to : Chunk) (volumes : Named VolumeRow) → with_ends_behind (to ∷ []) volumes ≡ adjust volumes to.vsn.0 (with_end_behind to)
+raised-one : (to : Chunk) (volumes : ByName VolumeRow) → with_ends_behind (to ∷ []) volumes ≡ adjust volumes to.vsn.0 (with_end_behind to)
 unfolding with_ends_behind
 raised-one to volumes = refl
 
 -- the side keeps the invariant as a chunk is moved
-pub chunk_moved : (entries : Numbered Entry) (contents : Numbered (List ℕ)) (taken : Numbered (Unit {0})) (requests : Numbered OpenRequest)
-    (g : ℕ) (committed deleted : Numbered (Unit {0})) (s : Side) (time : Secs) (b : Bfid) (from to : Chunk)
+pub chunk_moved : (entries : ByNumber Entry) (contents : ByNumber (List ℕ)) (taken : ByNumber (Unit {0})) (requests : ByNumber OpenRequest)
+    (g : ℕ) (committed deleted : ByNumber (Unit {0})) (s : Side) (time : Secs) (b : Bfid) (from to : Chunk)
     → GroupMayLand g entries contents taken deleted s (record { time = time; step = Move b from to })
     → PlacesKept s.group.tables.bitfiles s.group.reservations s.group.moves (Some (record { time = time; step = Move b from to }))
     → SideKept entries contents taken requests g committed deleted s
@@ -254,7 +254,7 @@ chunk_moved entries contents taken requests g committed deleted s time b from to
     let e = raised-one to t.volumes in
     let volumes = adjust t.volumes to.vsn.0 (with_end_behind to) in
     let raised = stays_raised s.group.conf t.time.0 t.volumes s.group.tips s.images one below k.volumes in
-    let On : Named VolumeRow → Type 0 = λ x. (q : List ℕ) → OnwardAt t.volumes x s.group.tips s.group.tips s.images s.images q in
+    let On : ByName VolumeRow → Type 0 = λ x. (q : List ℕ) → OnwardAt t.volumes x s.group.tips s.group.tips s.images s.images q in
     let on = subst On e raised in
     let lies = subst (λ x. LiesBefore x to) e
     (lies_raised s.group.conf t.time.0 t.volumes s.group.tips s.images one below k.volumes to (inl refl) step.lies) in

@@ -15,7 +15,7 @@ use Rattle.dm_durable.specs.declared.daemon.Entry.{Entry}
 use Rattle.dm_durable.specs.declared.group.GroupStep.TheVariants.{Reuse}
 use Rattle.dm_durable.specs.declared.group.VolumeRow.{VolumeRow}
 use Rattle.dm_durable.specs.Group.{as_reused, group_after_record}
-use Rattle.dm_durable.specs.Tables.{Numbered, Named}
+use Rattle.dm_durable.specs.Tables.{ByNumber, ByName}
 use Rattle.dm_durable.specs.Volumes.{epoch_or, tip_or}
 use Rattle.dm_model.specs.declared.state.Image.{Image}
 use Rattle.dm_model.specs.declared.state.OpenRequest.{OpenRequest}
@@ -34,19 +34,19 @@ use Rattle.dm_landing.proofs.VolumesOnward.{OnwardAt, bitfile_onward}
 use Rattle.dm_landing.proofs.VolumeUnused.{chunks_elsewhere, slots_adjusted, unused_stays}
 
 -- what is known of the other volumes stays as one is labelled anew
-relabelled_beside : (faithful : List ℕ) (version : ℕ) (vsn q : List ℕ) (o : Option VolumeRow) (images : Named Image) → q ≢ vsn
+relabelled_beside : (faithful : List ℕ) (version : ℕ) (vsn q : List ℕ) (o : Option VolumeRow) (images : ByName Image) → q ≢ vsn
     → known_on (images_relabelled faithful version vsn o images) q ≡ known_on images q
 relabelled_beside faithful version vsn q None images differ = refl
 relabelled_beside faithful version vsn q (Some v) images differ = labelled_beside faithful version v.slot vsn q images differ
 
 module _ (s : Side) (vsn : List ℕ) (epoch version now : ℕ) where
-  abbrev after : Named VolumeRow
+  abbrev after : ByName VolumeRow
   after = adjust s.group.tables.volumes vsn (as_reused epoch version)
 
-  abbrev tips : Named ℕ
+  abbrev tips : ByName ℕ
   tips = map.insert s.group.tips vsn first_zone
 
-  abbrev images : Named Image
+  abbrev images : ByName Image
   images = images_relabelled s.faithful version vsn (map.get s.group.tables.volumes vsn) s.images
 
   -- another volume stays
@@ -118,8 +118,8 @@ module _ (s : Side) (vsn : List ℕ) (epoch version now : ℕ) where
   }
 
 -- the side keeps the invariant as a volume is used again
-pub volume_reused_lands : (entries : Numbered Entry) (contents : Numbered (List ℕ)) (taken : Numbered (Unit {0})) (requests : Numbered OpenRequest)
-    (g : ℕ) (committed deleted : Numbered (Unit {0})) (s : Side) (time : Secs) (vsn : Vsn) (epoch version : ℕ)
+pub volume_reused_lands : (entries : ByNumber Entry) (contents : ByNumber (List ℕ)) (taken : ByNumber (Unit {0})) (requests : ByNumber OpenRequest)
+    (g : ℕ) (committed deleted : ByNumber (Unit {0})) (s : Side) (time : Secs) (vsn : Vsn) (epoch version : ℕ)
     → GroupMayLand g entries contents taken deleted s (record { time = time; step = Reuse vsn epoch version })
     → PlacesKept s.group.tables.bitfiles s.group.reservations s.group.moves (Some (record { time = time; step = Reuse vsn epoch version }))
     → SideKept entries contents taken requests g committed deleted s

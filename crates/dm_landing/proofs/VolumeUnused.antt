@@ -14,7 +14,7 @@ use Rattle.dm_durable.specs.declared.group.BitfileRow.{BitfileRow}
 use Rattle.dm_durable.specs.declared.group.GroupTables.{GroupTables}
 use Rattle.dm_durable.specs.declared.group.VolumeRow.{VolumeRow}
 use Rattle.dm_durable.specs.Group.{has_chunk_on, is_on}
-use Rattle.dm_durable.specs.Tables.{Numbered, Named}
+use Rattle.dm_durable.specs.Tables.{ByNumber, ByName}
 use Rattle.dm_durable.specs.Volumes.{epoch_or}
 use Rattle.dm_model.specs.declared.state.CopyState.{CopyState}
 use Rattle.dm_model.specs.declared.state.Image.{Image}
@@ -40,16 +40,16 @@ chunk_elsewhere vsn cs c none among =
     λ same. let f = one_passes (is_on vsn) c cs among (same_texts c.vsn.0 vsn same) in let g = sym none ∙ f in cc
 
 -- so it is of all bitfiles
-pub chunks_elsewhere : (bitfiles : Numbered BitfileRow) (vsn : List ℕ) → has_chunk_on bitfiles vsn ≡ false
+pub chunks_elsewhere : (bitfiles : ByNumber BitfileRow) (vsn : List ℕ) → has_chunk_on bitfiles vsn ≡ false
     → EachRow bitfiles (λ b row. (c : Chunk) → IsAmong c row.chunks → c.vsn.0 ≢ vsn)
 chunks_elsewhere bitfiles vsn none = λ b row is c among.
     chunk_elsewhere vsn row.chunks c (any-false numbers (λ b row. list_any (is_on vsn) row.chunks) bitfiles none b row is) among
 
-module _ (s : Side) (t : GroupTables) (tips : Named ℕ) (images : Named Image) (vsn : List ℕ)
+module _ (s : Side) (t : GroupTables) (tips : ByName ℕ) (images : ByName Image) (vsn : List ℕ)
     (on : (q : List ℕ) → q ≢ vsn → StaysAt s t tips images q) where
   -- the chunk of a mount of another volume is on that
-  origin_unused : (conf : GroupConf) (reservations : Numbered Reserved) (copies : Numbered CopyState) (moves : Numbered Moving)
-      (reuses : Numbered Reusing) (m : ℕ) (mounted : Vsn) (made : Origin) → (mounted.0 ≡ vsn → ⊥)
+  origin_unused : (conf : GroupConf) (reservations : ByNumber Reserved) (copies : ByNumber CopyState) (moves : ByNumber Moving)
+      (reuses : ByNumber Reusing) (m : ℕ) (mounted : Vsn) (made : Origin) → (mounted.0 ≡ vsn → ⊥)
       → OriginKept conf reservations copies moves reuses m mounted made
       → OriginOnward s.group.tables.volumes t.volumes s.group.tips tips s.images images made
   origin_unused conf reservations copies moves reuses m mounted (origin.New listed format) differ k = tt
@@ -62,8 +62,8 @@ module _ (s : Side) (t : GroupTables) (tips : Named ℕ) (images : Named Image) 
   origin_unused conf reservations copies moves reuses m mounted (origin.Reuse next_epoch version reading) differ k = tt
 
   -- what is open is about other volumes
-  pub unused_stays : (entries : Numbered Entry) (contents : Numbered (List ℕ)) (taken : Numbered (Unit {0})) (requests : Numbered OpenRequest)
-      (g : ℕ) (committed deleted : Numbered (Unit {0})) → IsUnused s.mounts s.group.reservations vsn
+  pub unused_stays : (entries : ByNumber Entry) (contents : ByNumber (List ℕ)) (taken : ByNumber (Unit {0})) (requests : ByNumber OpenRequest)
+      (g : ℕ) (committed deleted : ByNumber (Unit {0})) → IsUnused s.mounts s.group.reservations vsn
       → SideKept entries contents taken requests g committed deleted s
       → t.group ≡ s.group.tables.group → s.group.tables.time.0 ≤ t.time.0 → t.bitfiles ≡ s.group.tables.bitfiles
       → ((q : List ℕ) → q ≢ vsn → epoch_or (map.get t.volumes q) ≡ epoch_or (map.get s.group.tables.volumes q))
@@ -93,7 +93,7 @@ module _ (s : Side) (t : GroupTables) (tips : Named ℕ) (images : Named Image) 
 -- ---- volumes of which one is changed in its place
 
 -- a row of the tables with one row changed was there, with the same slot
-pub slot_before : (volumes : Named VolumeRow) (vsn : List ℕ) (f : VolumeRow → VolumeRow) → ((x : VolumeRow) → (f x).slot ≡ x.slot)
+pub slot_before : (volumes : ByName VolumeRow) (vsn : List ℕ) (f : VolumeRow → VolumeRow) → ((x : VolumeRow) → (f x).slot ≡ x.slot)
     → (q : List ℕ) (y : VolumeRow) → map.get (adjust volumes vsn f) q ≡ Some y
     → (x : VolumeRow) × (map.get volumes q ≡ Some x) × (y.slot ≡ x.slot)
 slot_before volumes vsn f same q y e =
@@ -103,7 +103,7 @@ slot_before volumes vsn f same q y e =
     ]
 
 -- so no two have one slot where no two had
-pub slots_adjusted : (volumes : Named VolumeRow) (vsn : List ℕ) (f : VolumeRow → VolumeRow) → ((x : VolumeRow) → (f x).slot ≡ x.slot)
+pub slots_adjusted : (volumes : ByName VolumeRow) (vsn : List ℕ) (f : VolumeRow → VolumeRow) → ((x : VolumeRow) → (f x).slot ≡ x.slot)
     → ((v w : List ℕ) (x y : VolumeRow) → map.get volumes v ≡ Some x → map.get volumes w ≡ Some y → x.slot ≡ y.slot → v ≡ w)
     → (v w : List ℕ) (x y : VolumeRow) → map.get (adjust volumes vsn f) v ≡ Some x → map.get (adjust volumes vsn f) w ≡ Some y
     → x.slot ≡ y.slot → v ≡ w

@@ -13,7 +13,7 @@ use Rattle.dm_rules.specs.Zone.{weight}
 use Rattle.dm_durable.specs.declared.daemon.Entry.{Entry}
 use Rattle.dm_durable.specs.declared.group.BitfileRow.{BitfileRow}
 use Rattle.dm_durable.specs.declared.group.VolumeRow.{VolumeRow}
-use Rattle.dm_durable.specs.Tables.{Numbered, Named}
+use Rattle.dm_durable.specs.Tables.{ByNumber, ByName}
 use Rattle.dm_durable.specs.Volumes.{tip_in}
 use Rattle.dm_model.specs.declared.state.CopyState.{CopyState}
 use Rattle.dm_model.specs.declared.state.Image.{Image}
@@ -49,7 +49,7 @@ ready_later now later hold tip (Some t) after ready = omega (arith, after, ready
 pub greater_later : (reading now later : ℕ) → now ≤ later → greater reading now ≤ greater reading later
 greater_later reading now later after = omega (arith, after)
 
-module _ (volumes after : Named VolumeRow) (tips tips_after : Named ℕ) (images images_after : Named Image) where
+module _ (volumes after : ByName VolumeRow) (tips tips_after : ByName ℕ) (images images_after : ByName Image) where
   -- a volume is as it was, but that it may be written further
   pub record SameOn (q : List ℕ) (v w : VolumeRow) : Type 0 where
     pub held : w.held ≡ v.held
@@ -81,7 +81,7 @@ module _ (volumes after : Named VolumeRow) (tips tips_after : Named ℕ) (images
       → ChunkKnown images bytes c → ChunkKnown images_after bytes c
   known_onward bytes c v on is known = ap (λ k. known_bytes k c.place c.len) (on v is).2.known ∙ known
 
-  pub bitfile_onward : (g : ℕ) (entries : Numbered Entry) (contents : Numbered (List ℕ)) (b : ℕ) (row : BitfileRow)
+  pub bitfile_onward : (g : ℕ) (entries : ByNumber Entry) (contents : ByNumber (List ℕ)) (b : ℕ) (row : BitfileRow)
       → ((c : Chunk) → IsAmong c row.chunks → OnwardAt c.vsn.0)
       → BitfileKept g entries contents volumes images b row → BitfileKept g entries contents after images_after b row
   bitfile_onward g entries contents b row on k = record {
@@ -112,7 +112,7 @@ module _ (volumes after : Named VolumeRow) (tips tips_after : Named ℕ) (images
     known = ap (λ k. known_bytes k p.zone (length w.zone)) (on v is).2.known ∙ k.known;
   }
 
-  pub reservation_onward : (bitfiles new : Numbered BitfileRow) (copies : Numbered CopyState) (n : ℕ) (r : Reserved)
+  pub reservation_onward : (bitfiles new : ByNumber BitfileRow) (copies : ByNumber CopyState) (n : ℕ) (r : Reserved)
       → map.get new r.bfid.0 ≡ None → ((p : Piece) → IsAmong p r.pieces → OnwardAt p.vsn.0)
       → ReservationKept bitfiles volumes tips images copies n r → ReservationKept new after tips_after images_after copies n r
   reservation_onward bitfiles new copies n r none on k = record {
@@ -154,7 +154,7 @@ module _ (volumes after : Named VolumeRow) (tips tips_after : Named ℕ) (images
     known = ap (λ k. known_bytes k c.zone (length zone)) (on v is).2.known ∙ k.known;
   }
 
-  pub move_onward : (contents : Numbered (List ℕ)) (mounts : Numbered MountState) (job : ℕ) (x : Moving) → OnwardAt x.to.vsn.0
+  pub move_onward : (contents : ByNumber (List ℕ)) (mounts : ByNumber MountState) (job : ℕ) (x : Moving) → OnwardAt x.to.vsn.0
       → MoveKept contents volumes tips images mounts job x → MoveKept contents after tips_after images_after mounts job x
   move_onward contents mounts job x on k = record {
     source = k.source;
@@ -170,7 +170,7 @@ module _ (volumes after : Named VolumeRow) (tips tips_after : Named ℕ) (images
     written = target_written_onward x.version x.to k.zone.volume k.target.written on k.zone.is k.written;
   }
 
-  pub still_onward : (contents : Numbered (List ℕ)) (reservations : Numbered Reserved) (moves : Numbered Moving) (v w : VolumeRow) (b : ℕ)
+  pub still_onward : (contents : ByNumber (List ℕ)) (reservations : ByNumber Reserved) (moves : ByNumber Moving) (v w : VolumeRow) (b : ℕ)
       (c : Chunk) → SameOn c.vsn.0 v w
       → StillThere contents images reservations moves v b c → StillThere contents images_after reservations moves w b c
   still_onward contents reservations moves v w b c same k =
@@ -188,7 +188,7 @@ module _ (volumes after : Named VolumeRow) (tips tips_after : Named ℕ) (images
         beside_targets = k.beside_targets;
       }
 
-  pub once_onward : (contents : Numbered (List ℕ)) (reservations : Numbered Reserved) (moves : Numbered Moving) (epoch b : ℕ) (c : Chunk)
+  pub once_onward : (contents : ByNumber (List ℕ)) (reservations : ByNumber Reserved) (moves : ByNumber Moving) (epoch b : ℕ) (c : Chunk)
       → OnwardAt c.vsn.0
       → OnceLive contents volumes images reservations moves epoch b c → OnceLive contents after images_after reservations moves epoch b c
   once_onward contents reservations moves epoch b c on k =
@@ -208,7 +208,7 @@ module _ (volumes after : Named VolumeRow) (tips tips_after : Named ℕ) (images
   OriginOnward (origin.Target job b total c version) = Unit {0}
   OriginOnward (origin.Reuse next_epoch version reading) = Unit {0}
 
-  pub mount_once_onward : (contents : Numbered (List ℕ)) (reservations : Numbered Reserved) (moves : Numbered Moving) (epoch : ℕ)
+  pub mount_once_onward : (contents : ByNumber (List ℕ)) (reservations : ByNumber Reserved) (moves : ByNumber Moving) (epoch : ℕ)
       (made : Origin) → OriginOnward made
       → MountOnce contents volumes images reservations moves epoch made → MountOnce contents after images_after reservations moves epoch made
   mount_once_onward contents reservations moves epoch (origin.New listed format) on k = tt
@@ -220,7 +220,7 @@ module _ (volumes after : Named VolumeRow) (tips tips_after : Named ℕ) (images
   mount_once_onward contents reservations moves epoch (origin.Target job b total c version) on k = tt
   mount_once_onward contents reservations moves epoch (origin.Reuse next_epoch version reading) on k = tt
 
-  pub reuse_onward : (hold now later : ℕ) (mounts : Numbered MountState) (m : ℕ) (x : Reusing) → now ≤ later → OnwardAt x.vsn.0
+  pub reuse_onward : (hold now later : ℕ) (mounts : ByNumber MountState) (m : ℕ) (x : Reusing) → now ≤ later → OnwardAt x.vsn.0
       → ReuseKept hold now volumes tips mounts m x → ReuseKept hold later after tips_after mounts m x
   reuse_onward hold now later mounts m x on_time on k =
       let o = on k.volume k.known in

@@ -5,7 +5,7 @@ use Rattle.dm_tables.specs.Rows.{EachRow}
 use Rattle.dm_tables.proofs.Orders.{numbers}
 use Rattle.dm_tables.proofs.Rows.{each-insert, each-remove}
 use Rattle.dm_tables.proofs.Adjusted.{each-map}
-use Rattle.dm_durable.specs.Tables.{Numbered}
+use Rattle.dm_durable.specs.Tables.{ByNumber}
 use Rattle.dm_durable.specs.declared.daemon.DaemonStep.{DaemonStep}
 use Rattle.dm_model.specs.declared.state.OpenRequest.{OpenRequest}
 use Rattle.dm_model.specs.DaemonCalls.{daemon_plan}
@@ -64,7 +64,7 @@ module _ (from : Daemon) where
   settled false component.Daemon d l = l
   settled heals (component.Group h) d l = l
 
-  changed : (requests : Numbered OpenRequest) (change : ℕ) (o : Option Ino) → EachRow requests Was → EachRow (with_change_on requests change o) Was
+  changed : (requests : ByNumber OpenRequest) (change : ℕ) (o : Option Ino) → EachRow requests Was → EachRow (with_change_on requests change o) Was
   changed requests change None rows = rows
   changed requests change (Some n) rows = each-map numbers Was (λ k. with_change n.0 change) requests (λ k r is. rows k r is)
 

@@ -16,7 +16,7 @@ use Rattle.dm_durable.specs.declared.daemon.Contents.TheVariants.{Regular, Makin
 use Rattle.dm_durable.specs.Daemon.{bfid_of}
 use Rattle.dm_durable.specs.DaemonConditions.{MayBeMade}
 use Rattle.dm_durable.specs.Inodes.{bytes_online}
-use Rattle.dm_durable.specs.Tables.{Numbered}
+use Rattle.dm_durable.specs.Tables.{ByNumber}
 use Rattle.dm_model.specs.declared.answer.Answer.{Answer}
 use Rattle.dm_model.specs.declared.answer.Answer.TheVariants as answer
 use Rattle.dm_model.specs.declared.call.Call.TheVariants as call
@@ -58,7 +58,7 @@ away_not true is = cc
 away_not false is = cc
 
 -- a file that is regular has its bytes, and no bitfile
-regular_may : (requests : Numbered OpenRequest) (n : ℕ) (c : Contents) → not (is_regular (state_of requests n c)) ≡ false → MayBeMade c
+regular_may : (requests : ByNumber OpenRequest) (n : ℕ) (c : Contents) → not (is_regular (state_of requests n c)) ≡ false → MayBeMade c
 regular_may requests n (Regular bytes) is = tt
 regular_may requests n (Making bytes b) is = tt
 regular_may requests n (Dual bytes b) is = absurd (cc)

@@ -18,7 +18,7 @@ use Rattle.dm_durable.specs.Daemon.{after_begin_put, after_begin_put_at, after_e
 use Rattle.dm_durable.specs.Dumps.{bitfile_dumped, file_in}
 use Rattle.dm_durable.specs.Entries.{after_letting_go_if, as_dropping, has_stored, new_entry, with_copy_of, with_deletion_time, without_deletion_time}
 use Rattle.dm_durable.specs.Inodes.{bitfile_of, bytes_online}
-use Rattle.dm_durable.specs.Tables.{Numbered}
+use Rattle.dm_durable.specs.Tables.{ByNumber}
 use Rattle.dm_invariant.proofs.LettingGo.{StaysOrGoes, let_go-row}
 use Rattle.dm_landing.proofs.CopiesStored.{new_unstored, newly_stored}
 use Rattle.dm_lasting.specs.Comes.{IsStoredOf, NotStored}
@@ -50,18 +50,18 @@ module _ (b g : ℕ) where
   abbrev NotYet : ℕ → Entry → Type 0
   NotYet q e = q ≡ b → has_stored e g ≡ false
 
-  stays_or_goes : (inodes : Numbered Inode) (time : ℕ) (o : Option ℕ) (q : ℕ) (e f : Entry) → has_stored e g ≡ false
+  stays_or_goes : (inodes : ByNumber Inode) (time : ℕ) (o : Option ℕ) (q : ℕ) (e f : Entry) → has_stored e g ≡ false
       → StaysOrGoes inodes time o q e f → has_stored f g ≡ false
   stays_or_goes inodes time o q e f un (inl same) = ap (λ (x : Entry). has_stored x g) same ∙ un
   stays_or_goes inodes time o q e f un (inr gone) = ap (λ (x : Entry). has_stored x g) gone.2 ∙ un
 
-  let_go : (entries : Numbered Entry) (inodes : Numbered Inode) (time : ℕ) (o : Option ℕ) → NotStored entries b g
+  let_go : (entries : ByNumber Entry) (inodes : ByNumber Inode) (time : ℕ) (o : Option ℕ) → NotStored entries b g
       → NotStored (after_letting_go_if entries inodes time o) b g
   let_go entries inodes time o each = λ q f is same.
       let was = let_go-row entries inodes time o q f is in
       stays_or_goes inodes time o q was.0 f (each q was.0 was.1 same) was.2
 
-  named : (entries : Numbered Entry) (o : Option ℕ) → NotStored entries b g → NotStored (with_named entries o) b g
+  named : (entries : ByNumber Entry) (o : Option ℕ) → NotStored entries b g → NotStored (with_named entries o) b g
   named entries None each = each
   named entries (Some c) each = each-adjust numbers NotYet entries c without_deletion_time (λ e is same. each c e is same) each
 

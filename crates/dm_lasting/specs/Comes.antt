@@ -7,7 +7,7 @@ use Rattle.dm_durable.specs.declared.daemon.DaemonStep.{DaemonStep}
 use Rattle.dm_durable.specs.declared.daemon.DaemonStep.TheVariants as daemon_step
 use Rattle.dm_durable.specs.declared.daemon.Entry.{Entry}
 use Rattle.dm_durable.specs.Entries.{has_stored}
-use Rattle.dm_durable.specs.Tables.{Numbered}
+use Rattle.dm_durable.specs.Tables.{ByNumber}
 use Rattle.dm_model.specs.declared.call.Call.{Call}
 use Rattle.dm_model.specs.declared.call.Call.TheVariants as call
 use Rattle.dm_model.specs.declared.call.DaemonCall.{DaemonCall}
@@ -35,7 +35,7 @@ IsStoredOf b g daemon_step.Restart = ⊥
 IsStoredOf b g (daemon_step.Age age) = ⊥
 
 -- no entry of the bitfile says that the group has stored its copy
-abbrev pub NotStored : Numbered Entry → ℕ → ℕ → Type 0
+abbrev pub NotStored : ByNumber Entry → ℕ → ℕ → Type 0
 NotStored entries b g = EachRow entries (λ q e. q ≡ b → has_stored e g ≡ false)
 
 -- a step in doubt says so

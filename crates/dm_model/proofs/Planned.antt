@@ -4,7 +4,7 @@ use Rattle.std.specs.List.{flat_map}
 use Rattle.std.specs.FinMap as map
 use Rattle.dm_base.specs.declared.volume.Piece.{Piece}
 use Rattle.dm_durable.specs.declared.group.VolumeRow.{VolumeRow}
-use Rattle.dm_durable.specs.Tables.{Named}
+use Rattle.dm_durable.specs.Tables.{ByName}
 use Rattle.dm_durable.specs.Volumes.{Usage, of_serial, planned_pieces, space_if}
 use Rattle.dm_rules.specs.declared.space.Space.{Space}
 use Rattle.dm_rules.specs.Plan.{pieces_of, rooms}
@@ -22,11 +22,11 @@ volume slot version = record { slot = slot; version = version; size = 424; epoch
 abbrev rows : ℕ → List (List ℕ × VolumeRow)
 rows version = (serial 1, volume 0 version) ∷ (serial 2, volume 1 version) ∷ (serial 3, volume 2 version) ∷ []
 
-abbrev volumes : ℕ → Named VolumeRow
+abbrev volumes : ℕ → ByName VolumeRow
 volumes version = map.from_entries (rows version)
 
 -- nothing is open on them
-abbrev unused : Named ℕ → Usage
+abbrev unused : ByName ℕ → Usage
 unused tips = record { chunk = 1000; tips = tips; reserved = λ v. false; mounted = λ v. false; reused = λ v. false }
 
 -- the volumes are found in the order of their serial numbers
@@ -37,13 +37,13 @@ abbrev space : ℕ → ℕ → Space
 space n version = record { vsn = record { 0 = serial n }; version = version; tip = 64; room = room version 424 64 1000 }
 
 -- where no tip was moved, each takes a piece behind its label
-spaces-found : (version : ℕ) (tips : Named ℕ) → ((q : List ℕ) → map.get tips q ≡ None)
+spaces-found : (version : ℕ) (tips : ByName ℕ) → ((q : List ℕ) → map.get tips q ≡ None)
     → flat_map (λ e. of_serial e.0 (space_if (unused tips) e.0 e.1 e.1.held)) (rows version)
     ≡ space 1 version ∷ space 2 version ∷ space 3 version ∷ []
 spaces-found version tips none = simp (none (serial 1), none (serial 2), none (serial 3)) refl
 
 -- the pieces of so many bytes are those over these spaces
-planned : (version len : ℕ) (tips : Named ℕ) → ((q : List ℕ) → map.get tips q ≡ None)
+planned : (version len : ℕ) (tips : ByName ℕ) → ((q : List ℕ) → map.get tips q ≡ None)
     → planned_pieces (unused tips) (volumes version) len ≡ pieces_of (space 1 version ∷ space 2 version ∷ space 3 version ∷ []) 0 len
 planned version len tips none =
     ap (λ es. pieces_of (flat_map (λ e. of_serial e.0 (space_if (unused tips) e.0 e.1 e.1.held)) es) 0 len) (in_order version)

@@ -4,7 +4,7 @@ use Rattle.std.specs.Option.{option_map}
 use Rattle.std.specs.FinMap as map
 use Rattle.dm_base.specs.declared.identifier.GroupId.{GroupId}
 use Rattle.dm_durable.specs.declared.daemon.DaemonRecord.{DaemonRecord}
-use Rattle.dm_durable.specs.Tables.{Numbered}
+use Rattle.dm_durable.specs.Tables.{ByNumber}
 use Rattle.dm_model.specs.declared.call.Component.{Component}
 use Rattle.dm_model.specs.declared.call.Component.TheVariants as component
 use Rattle.dm_model.specs.declared.plan.Ending.{Ending}
@@ -117,13 +117,13 @@ pub record IsOfGroup (g : GroupId) (p : Prepared) : Type 0 where
   pub opens : OpensOf g p.opens
 
 -- what stands at g after f was done to the side of h, which is g
-pub at_one : (f : Side → Side) (g h : GroupId) (sides : Numbered Side) (s : Side)
+pub at_one : (f : Side → Side) (g h : GroupId) (sides : ByNumber Side) (s : Side)
     → h ≡ g → map.get sides g.0 ≡ Some s → map.get (at_each f (h ∷ []) sides) g.0 ≡ Some (f s)
 at_one f g h sides s same there =
     let P : GroupId → Type 0 = λ x. map.get (adjust sides x.0 f) g.0 ≡ Some (f s) in
     subst P (sym same) (adjusted-here numbers sides g.0 f ∙ ap (option_map f) there)
 
-pub ending-at : (g : GroupId) (e : Ending) (sides : Numbered Side) (s : Side) → EndsOf g e → map.get sides g.0 ≡ Some s
+pub ending-at : (g : GroupId) (e : Ending) (sides : ByNumber Side) (s : Side) → EndsOf g e → map.get sides g.0 ≡ Some s
     → map.get (at_each (side_after_ending e) (groups_of_ending e) sides) g.0 ≡ Some (side_after_ending e s)
 ending-at g ending.Nothing sides s of there = there
 ending-at g (ending.Put k b groups) sides s of there = absurd of
@@ -134,27 +134,27 @@ ending-at g (ending.Mount h m) sides s of there = at_one (side_after_ending (end
 ending-at g (ending.Move h job source target) sides s of there =
     at_one (side_after_ending (ending.Move h job source target)) g h sides s of there
 
-pub healing-at : (g : GroupId) (heals : Bool) (sides : Numbered Side) (s : Side) → map.get sides g.0 ≡ Some s
+pub healing-at : (g : GroupId) (heals : Bool) (sides : ByNumber Side) (s : Side) → map.get sides g.0 ≡ Some s
     → map.get (at_each (side_without_doubt heals) (cond heals (groups_of_component (component.Group g)) []) sides) g.0
     ≡ Some (side_without_doubt heals s)
 healing-at g true sides s there = at_one (side_without_doubt true) g g sides s refl there
 healing-at g false sides s there = there
 
-pub payload-at : (g : GroupId) (p : Option Payload) (sides : Numbered Side) (s : Side) → PaysOf g p → map.get sides g.0 ≡ Some s
+pub payload-at : (g : GroupId) (p : Option Payload) (sides : ByNumber Side) (s : Side) → PaysOf g p → map.get sides g.0 ≡ Some s
     → map.get (at_each (side_after_payload p) (groups_of_payload p) sides) g.0 ≡ Some (side_after_payload p s)
 payload-at g None sides s of there = there
 payload-at g (Some (payload.Daemon r)) sides s of there = absurd of
 payload-at g (Some (payload.Group h r)) sides s of there =
     at_one (side_after_payload (Some (payload.Group h r))) g h sides s of there
 
-pub doubting-at : (g : GroupId) (p : Option Payload) (sides : Numbered Side) (s : Side) → PaysOf g p → map.get sides g.0 ≡ Some s
+pub doubting-at : (g : GroupId) (p : Option Payload) (sides : ByNumber Side) (s : Side) → PaysOf g p → map.get sides g.0 ≡ Some s
     → map.get (at_each (side_doubting p) (groups_of_payload p) sides) g.0 ≡ Some (side_doubting p s)
 doubting-at g None sides s of there = there
 doubting-at g (Some (payload.Daemon r)) sides s of there = absurd of
 doubting-at g (Some (payload.Group h r)) sides s of there =
     at_one (side_doubting (Some (payload.Group h r))) g h sides s of there
 
-pub mark-at : (g : GroupId) (x : Mark) (sides : Numbered Side) (s : Side) → MarksOf g x → map.get sides g.0 ≡ Some s
+pub mark-at : (g : GroupId) (x : Mark) (sides : ByNumber Side) (s : Side) → MarksOf g x → map.get sides g.0 ≡ Some s
     → map.get (at_each (side_after_mark x) (groups_of_mark x) sides) g.0 ≡ Some (side_after_mark x s)
 mark-at g mark.Nothing sides s of there = there
 mark-at g (mark.Zone h vsn place zone b index epoch) sides s of there =
@@ -167,7 +167,7 @@ mark-at g (mark.Read h b offset bytes) sides s of there = there
 mark-at g (mark.Source h m bytes) sides s of there = at_one (side_after_mark (mark.Source h m bytes)) g h sides s of there
 mark-at g (mark.Deleted h b) sides s of there = there
 
-pub failed_mark-at : (g : GroupId) (x : Mark) (sides : Numbered Side) (s : Side) → MarksOf g x → map.get sides g.0 ≡ Some s
+pub failed_mark-at : (g : GroupId) (x : Mark) (sides : ByNumber Side) (s : Side) → MarksOf g x → map.get sides g.0 ≡ Some s
     → map.get (at_each (side_after_failed_mark x) (groups_of_mark x) sides) g.0 ≡ Some (side_after_failed_mark x s)
 failed_mark-at g mark.Nothing sides s of there = there
 failed_mark-at g (mark.Zone h vsn place zone b index epoch) sides s of there =
@@ -181,7 +181,7 @@ failed_mark-at g (mark.Source h m bytes) sides s of there =
     at_one (side_after_failed_mark (mark.Source h m bytes)) g h sides s of there
 failed_mark-at g (mark.Deleted h b) sides s of there = there
 
-pub opening-at : (g : GroupId) (o : Opening) (sides : Numbered Side) (s : Side) → OpensOf g o → map.get sides g.0 ≡ Some s
+pub opening-at : (g : GroupId) (o : Opening) (sides : ByNumber Side) (s : Side) → OpensOf g o → map.get sides g.0 ≡ Some s
     → map.get (at_each (side_after_opening o) (groups_of_opening o) sides) g.0 ≡ Some (side_after_opening o s)
 opening-at g opening.Nothing sides s of there = there
 opening-at g (opening.Put k r len groups) sides s of there = absurd of

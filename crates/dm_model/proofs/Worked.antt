@@ -12,7 +12,7 @@ use Rattle.dm_durable.specs.declared.daemon.Dump.{Dump}
 use Rattle.dm_durable.specs.declared.daemon.Entry.{Entry}
 use Rattle.dm_durable.specs.Dumps.{with_least}
 use Rattle.dm_durable.specs.Entries.{is_due}
-use Rattle.dm_durable.specs.Tables.{Named}
+use Rattle.dm_durable.specs.Tables.{ByName}
 use Rattle.dm_model.specs.declared.answer.Answer.TheVariants as answer
 use Rattle.dm_model.specs.declared.call.Call.TheVariants as call
 use Rattle.dm_model.specs.declared.call.Component.TheVariants as component
@@ -173,11 +173,11 @@ empty_stays : is_ready 0 50 1 1 Empty ≡ false
 empty_stays = refl
 
 -- a volume that gets version 1 keeps what is known where its file is faithful, and one that gets version 2 always
-faithful_known : (vsn : List ℕ) (images : Named Image) → images_labelled (0 ∷ []) 1 0 vsn images ≡ images
+faithful_known : (vsn : List ℕ) (images : ByName Image) → images_labelled (0 ∷ []) 1 0 vsn images ≡ images
 faithful_known vsn images = refl
 
-unfaithful_lost : (vsn : List ℕ) (images : Named Image) → images_labelled (1 ∷ []) 1 0 vsn images ≡ adjust images vsn without_known
+unfaithful_lost : (vsn : List ℕ) (images : ByName Image) → images_labelled (1 ∷ []) 1 0 vsn images ≡ adjust images vsn without_known
 unfaithful_lost vsn images = refl
 
-second_known : (vsn : List ℕ) (images : Named Image) → images_labelled [] 2 0 vsn images ≡ images
+second_known : (vsn : List ℕ) (images : ByName Image) → images_labelled [] 2 0 vsn images ≡ images
 second_known vsn images = refl

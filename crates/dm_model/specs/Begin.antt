@@ -7,7 +7,7 @@ use Rattle.dm_base.specs.declared.serial.Vsn.{Vsn}
 use Rattle.dm_base.specs.Limits.{volumes_limit}
 use Rattle.dm_durable.specs.Daemon.{empty_tables}
 use Rattle.dm_durable.specs.Group.{empty_group}
-use Rattle.dm_durable.specs.Tables.{Numbered, Named}
+use Rattle.dm_durable.specs.Tables.{ByNumber, ByName}
 use Rattle.dm_model.specs.declared.state.Daemon.{Daemon}
 use Rattle.dm_model.specs.declared.state.Group.{Group}
 use Rattle.dm_model.specs.declared.state.History.{History}
@@ -42,7 +42,7 @@ new_group conf = record {
 }
 
 -- an image for each of the volumes; none of its bytes is known
-abbrev pub blank_images : ℕ → List Vsn → Named Image
+abbrev pub blank_images : ℕ → List Vsn → ByName Image
 blank_images size [] = map.empty
 blank_images size (v ∷ vs) = map.insert (blank_images size vs) v.0 (record { size = size; known = map.empty })
 
@@ -60,7 +60,7 @@ new_side conf = record {
   mounts = map.empty;
 }
 
-abbrev pub new_sides : List GroupConf → Numbered Side
+abbrev pub new_sides : List GroupConf → ByNumber Side
 new_sides [] = map.empty
 new_sides (conf ∷ confs) = map.insert (new_sides confs) conf.group.0 (new_side conf)
 

@@ -26,7 +26,7 @@ use Rattle.dm_durable.specs.Daemon.{bfid_of, size_of}
 use Rattle.dm_durable.specs.Dumps.{dump_size, file_in, is_young, length_dumped, new_dump}
 use Rattle.dm_durable.specs.Entries.{asks, groups_asked, has_stored, is_due, is_stored}
 use Rattle.dm_durable.specs.Inodes.{bytes_online}
-use Rattle.dm_durable.specs.Tables.{Numbered, same_text}
+use Rattle.dm_durable.specs.Tables.{ByNumber, same_text}
 use Rattle.dm_model.specs.declared.answer.Answer.{Answer}
 use Rattle.dm_model.specs.declared.answer.Answer.TheVariants as answer
 use Rattle.dm_model.specs.declared.call.Component.TheVariants as component
@@ -161,11 +161,11 @@ begin_put d path asked now k (Some f) =
       opens = opening.Put k request (length bytes) groups;
     }
 
-abbrev pub are_configured : Numbered Side → List GroupId → Bool
+abbrev pub are_configured : ByNumber Side → List GroupId → Bool
 are_configured sides groups = list_all (λ g. is_some (map.get sides g.0)) groups
 
 -- which groups are configured never changes
-abbrev pub begin_put_needs : Numbered Side → List (Option GroupId) → Needs
+abbrev pub begin_put_needs : ByNumber Side → List (Option GroupId) → Needs
 begin_put_needs sides asked =
     record { token = []; lasting = (are_configured sides (groups_of asked), guard.AskedGroups) ∷ [] }
 
@@ -217,11 +217,11 @@ abbrev pub has_reservation : Option CopyState → Bool
 has_reservation None = false
 has_reservation (Some c) = is_some c.reservation
 
-abbrev pub is_reserved : Numbered Side → ℕ → Bool
+abbrev pub is_reserved : ByNumber Side → ℕ → Bool
 is_reserved sides b = any (λ g s. has_reservation (map.get s.copies b)) sides
 
 -- no reservation of the bitfile is open
-abbrev pub end_put_needs : Numbered Side → Option OpenRequest → Needs
+abbrev pub end_put_needs : ByNumber Side → Option OpenRequest → Needs
 end_put_needs sides None = no_needs
 end_put_needs sides (Some r) =
     record { token = (not (is_reserved sides r.bfid.0), guard.NothingReserved) ∷ []; lasting = [] }
@@ -299,7 +299,7 @@ joins at (part ∷ rest) bytes =
     nat_eq part.0 at && same_text (take (length part.1) bytes) part.1
     && joins (at + length part.1) rest (drop (length part.1) bytes)
 
-abbrev pub reads_or : Option (Numbered (List ℕ)) → Numbered (List ℕ)
+abbrev pub reads_or : Option (ByNumber (List ℕ)) → ByNumber (List ℕ)
 reads_or None = map.empty
 reads_or (Some reads) = reads
 
@@ -449,7 +449,7 @@ abbrev pub dropping_of : ℕ → Entry → Dropping
 dropping_of b e = record { bfid = record { 0 = b }; asked = places_of (groups_asked e) }
 
 -- the entries behind that one whose copies are being deleted, by identifier
-abbrev pub dropping_behind : Numbered Entry → Option Bfid → List Dropping
+abbrev pub dropping_behind : ByNumber Entry → Option Bfid → List Dropping
 dropping_behind entries after =
     prelude.map (λ e. dropping_of e.0 e.1) (filter (λ e. is_behind after e.0 && e.1.dropping) (map.entries entries))
 
@@ -507,7 +507,7 @@ daemon_plan d (call.Attributes path) = attributes d path (file_at d path)
 daemon_plan d call.List = daemon_healing_plan (answer.Files (all_rows d))
 
 -- the worker is the one that calls, if anything is known of it
-abbrev pub daemon_needs : Numbered Side → Option Worker → History → Daemon → DaemonCall → Needs
+abbrev pub daemon_needs : ByNumber Side → Option Worker → History → Daemon → DaemonCall → Needs
 daemon_needs sides w h d (call.BeginPut path asked now k) = begin_put_needs sides asked
 daemon_needs sides w h d (call.CopyStored k group now) = copy_stored_needs h group (map.get d.requests k)
 daemon_needs sides w h d (call.EndPut k now) = end_put_needs sides (map.get d.requests k)

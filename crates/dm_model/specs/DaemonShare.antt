@@ -10,7 +10,7 @@ use Rattle.dm_durable.specs.declared.daemon.DaemonRecord.{DaemonRecord}
 use Rattle.dm_durable.specs.declared.daemon.DaemonStep.{DaemonStep}
 use Rattle.dm_durable.specs.declared.daemon.DaemonStep.TheVariants as step
 use Rattle.dm_durable.specs.Daemon.{after_record, after_stop}
-use Rattle.dm_durable.specs.Tables.{Numbered}
+use Rattle.dm_durable.specs.Tables.{ByNumber}
 use Rattle.dm_model.specs.declared.call.Component.{Component}
 use Rattle.dm_model.specs.declared.call.Component.TheVariants as component
 use Rattle.dm_model.specs.declared.plan.Ending.{Ending}
@@ -43,12 +43,12 @@ daemon_after_ending (ending.Move g job source target) d = d
 abbrev pub with_change : ℕ → ℕ → OpenRequest → OpenRequest
 with_change n change r = record r { found = cond (nat_eq r.ino.0 n) (Some change) r.found }
 
-abbrev pub with_change_on : Numbered OpenRequest → ℕ → Option Ino → Numbered OpenRequest
+abbrev pub with_change_on : ByNumber OpenRequest → ℕ → Option Ino → ByNumber OpenRequest
 with_change_on requests change None = requests
 with_change_on requests change (Some n) = map_values (λ k. with_change n.0 change) requests
 
 -- the requests after a step
-abbrev pub requests_after_step : Daemon → DaemonStep → Numbered OpenRequest
+abbrev pub requests_after_step : Daemon → DaemonStep → ByNumber OpenRequest
 requests_after_step d (step.Write path change bytes) = with_change_on d.requests change (map.get d.tables.names path)
 requests_after_step d (step.Remove path change) = with_change_on d.requests change (map.get d.tables.names path)
 requests_after_step d (step.BeginPut path b groups) = d.requests

@@ -11,7 +11,7 @@ use Rattle.dm_durable.specs.declared.daemon.DaemonStep.TheVariants as step
 use Rattle.dm_durable.specs.declared.group.GroupStep.{GroupStep}
 use Rattle.dm_durable.specs.declared.group.GroupStep.TheVariants as group_step
 use Rattle.dm_durable.specs.Inodes.{bytes_online}
-use Rattle.dm_durable.specs.Tables.{Numbered}
+use Rattle.dm_durable.specs.Tables.{ByNumber}
 use Rattle.dm_model.specs.declared.call.Component.{Component}
 use Rattle.dm_model.specs.declared.call.Component.TheVariants as component
 use Rattle.dm_model.specs.declared.plan.Ending.{Ending}
@@ -38,7 +38,7 @@ use Rattle.dm_tables.specs.Rows.{adjust, map_values}
 -- ---- several groups, and a worker
 
 -- the sides of these groups are changed
-abbrev pub at_each : (Side → Side) → List GroupId → Numbered Side → Numbered Side
+abbrev pub at_each : (Side → Side) → List GroupId → ByNumber Side → ByNumber Side
 at_each f [] sides = sides
 at_each f (g ∷ gs) sides = at_each f gs (adjust sides g.0 f)
 
@@ -64,7 +64,7 @@ groups_of_ending (ending.Reservation g n b) = g ∷ []
 groups_of_ending (ending.Mount g m) = g ∷ []
 groups_of_ending (ending.Move g job source target) = g ∷ []
 
-abbrev pub workers_after_ending : ℕ → Ending → Numbered Worker → Numbered Worker
+abbrev pub workers_after_ending : ℕ → Ending → ByNumber Worker → ByNumber Worker
 workers_after_ending w ending.Nothing workers = workers
 workers_after_ending w (ending.Put k b groups) workers = workers
 workers_after_ending w (ending.Recall k) workers = adjust workers w (without_recall k)
@@ -109,11 +109,11 @@ joint_with_doubt p j = record j {
 -- ---- PAYLOADS: what is journalled
 
 -- the bytes of a bitfile are those of the file as its put begins
-abbrev pub contents_with : ℕ → Option File → Numbered (List ℕ) → Numbered (List ℕ)
+abbrev pub contents_with : ℕ → Option File → ByNumber (List ℕ) → ByNumber (List ℕ)
 contents_with b None contents = contents
 contents_with b (Some f) contents = map.insert contents b (bytes_online f.inode.contents)
 
-abbrev pub with_taken : List Bfid → Numbered (Unit {0}) → Numbered (Unit {0})
+abbrev pub with_taken : List Bfid → ByNumber (Unit {0}) → ByNumber (Unit {0})
 with_taken [] taken = taken
 with_taken (b ∷ bs) taken = with_taken bs (map.insert taken b.0 tt)
 
@@ -193,7 +193,7 @@ with_read_of b g offset bytes r = cond (nat_eq r.bfid.0 b) (with_read g offset b
 abbrev pub worker_with_read : ℕ → ℕ → ℕ → List ℕ → Worker → Worker
 worker_with_read b g offset bytes w = record w { recalls = map_values (λ k. with_read_of b g offset bytes) w.recalls }
 
-abbrev pub workers_after_mark : ℕ → Mark → Numbered Worker → Numbered Worker
+abbrev pub workers_after_mark : ℕ → Mark → ByNumber Worker → ByNumber Worker
 workers_after_mark w mark.Nothing workers = workers
 workers_after_mark w (mark.Zone g vsn place zone b index epoch) workers = workers
 workers_after_mark w (mark.Target g vsn m place zone) workers = workers
@@ -234,7 +234,7 @@ groups_of_opening (opening.Mount g m vsn epoch made) = g ∷ []
 groups_of_opening (opening.Move g job moving source_epoch target_epoch) = g ∷ []
 groups_of_opening (opening.Reuse g m epoch reusing reading) = g ∷ []
 
-abbrev pub workers_after_opening : ℕ → Opening → Numbered Worker → Numbered Worker
+abbrev pub workers_after_opening : ℕ → Opening → ByNumber Worker → ByNumber Worker
 workers_after_opening w opening.Nothing workers = workers
 workers_after_opening w (opening.Put k r len groups) workers = workers
 workers_after_opening w (opening.Recall k r recall) workers =

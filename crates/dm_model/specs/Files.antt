@@ -17,7 +17,7 @@ use Rattle.dm_durable.specs.declared.daemon.Entry.{Entry}
 use Rattle.dm_durable.specs.declared.daemon.Inode.{Inode}
 use Rattle.dm_durable.specs.Entries.{groups_asked}
 use Rattle.dm_durable.specs.Inodes.{length_of}
-use Rattle.dm_durable.specs.Tables.{Numbered}
+use Rattle.dm_durable.specs.Tables.{ByNumber}
 use Rattle.dm_model.specs.declared.state.Daemon.{Daemon}
 use Rattle.dm_model.specs.declared.state.OpenRequest.{OpenRequest}
 use Rattle.dm_model.specs.declared.state.RequestKind.{RequestKind}
@@ -35,7 +35,7 @@ abbrev pub file_of : ℕ → Option Inode → Option File
 file_of n None = None
 file_of n (Some i) = Some (record { number = n; inode = i })
 
-abbrev pub file_named : Numbered Inode → Option Ino → Option File
+abbrev pub file_named : ByNumber Inode → Option Ino → Option File
 file_named inodes None = None
 file_named inodes (Some n) = file_of n.0 (map.get inodes n.0)
 
@@ -62,24 +62,24 @@ is_recall Recall = true
 abbrev pub is_put_of : ℕ → OpenRequest → Bool
 is_put_of b r = is_put r.kind && nat_eq r.bfid.0 b
 
-abbrev pub has_open_put : Numbered OpenRequest → ℕ → Bool
+abbrev pub has_open_put : ByNumber OpenRequest → ℕ → Bool
 has_open_put requests b = any (λ k r. is_put_of b r) requests
 
 -- whether it is a recall of the inode
 abbrev pub is_recall_on : ℕ → OpenRequest → Bool
 is_recall_on n r = is_recall r.kind && nat_eq r.ino.0 n
 
-abbrev pub has_open_recall : Numbered OpenRequest → ℕ → Bool
+abbrev pub has_open_recall : ByNumber OpenRequest → ℕ → Bool
 has_open_recall requests n = any (λ k r. is_recall_on n r) requests
 
 -- whether a request of either kind is open on the bitfile
-abbrev pub has_open_request : Numbered OpenRequest → ℕ → Bool
+abbrev pub has_open_request : ByNumber OpenRequest → ℕ → Bool
 has_open_request requests b = any (λ k r. nat_eq r.bfid.0 b) requests
 
 -- ---- states
 
 -- the state of a file whose inode has this number and holds this
-abbrev pub state_of : Numbered OpenRequest → ℕ → Contents → FileState
+abbrev pub state_of : ByNumber OpenRequest → ℕ → Contents → FileState
 state_of requests n (contents.Regular bytes) = Regular
 state_of requests n (contents.Making bytes b) = cond (has_open_put requests b.0) Migrating Regular
 state_of requests n (contents.Dual bytes b) = Dual
@@ -117,7 +117,7 @@ bfid_shown state (contents.Dual bytes b) = Some b
 bfid_shown state (contents.Offline len b) = Some b
 
 -- what a user is told of a file
-abbrev pub row_of : Numbered OpenRequest → List ℕ → File → FileRow
+abbrev pub row_of : ByNumber OpenRequest → List ℕ → File → FileRow
 row_of requests path f =
     let state = state_of requests f.number f.inode.contents in
     record {
@@ -128,7 +128,7 @@ row_of requests path f =
       bfid = bfid_shown state f.inode.contents;
     }
 
-abbrev pub row_if : Numbered OpenRequest → List ℕ → Option File → List FileRow
+abbrev pub row_if : ByNumber OpenRequest → List ℕ → Option File → List FileRow
 row_if requests path None = []
 row_if requests path (Some f) = row_of requests path f ∷ []
 

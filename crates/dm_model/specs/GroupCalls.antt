@@ -22,7 +22,7 @@ use Rattle.dm_durable.specs.declared.group.GroupStep.{GroupStep}
 use Rattle.dm_durable.specs.declared.group.GroupStep.TheVariants as step
 use Rattle.dm_durable.specs.declared.group.VolumeRow.{VolumeRow}
 use Rattle.dm_durable.specs.Group.{chunk_at}
-use Rattle.dm_durable.specs.Tables.{Numbered, same_text}
+use Rattle.dm_durable.specs.Tables.{ByNumber, same_text}
 use Rattle.dm_durable.specs.Volumes.{LiveChunk, chunk_moved_to, destination_in, first_on, free_slot, greatest_room, is_freeable_in, is_listed, least_missing, planned_pieces, reusable_in, spaces, target_spaces}
 use Rattle.dm_durable.specs.Volumes as tables
 use Rattle.dm_model.specs.declared.answer.Answer.{Answer}
@@ -284,7 +284,7 @@ is_zone_of bytes r p None = false
 is_zone_of bytes r p (Some w) = is_part bytes r p && same_text w.zone (piece_zone w.epoch bytes r p)
 
 -- each piece, from the k-th on, was written last with its zone
-abbrev pub are_written : List ℕ → Reserved → Numbered WrittenZone → ℕ → List Piece → Bool
+abbrev pub are_written : List ℕ → Reserved → ByNumber WrittenZone → ℕ → List Piece → Bool
 are_written bytes r written k [] = true
 are_written bytes r written k (p ∷ ps) = is_zone_of bytes r p (map.get written k) && are_written bytes r written (k + 1) ps
 
@@ -317,7 +317,7 @@ abbrev pub is_unmounted : ℕ → Option CopyReservation → Bool
 is_unmounted n None = false
 is_unmounted n (Some r) = nat_eq r.number n && nat_eq (map.len r.mounts) 0
 
-abbrev pub commit_of : Numbered (List ℕ) → ℕ → List (List ℕ) → Reserved → Option CopyState → Needs
+abbrev pub commit_of : ByNumber (List ℕ) → ℕ → List (List ℕ) → Reserved → Option CopyState → Needs
 commit_of contents n sums r copy =
     let bytes = map.get contents r.bfid.0 in
     record {
@@ -328,7 +328,7 @@ commit_of contents n sums r copy =
           ∷ [];
     }
 
-abbrev pub commit_needs : Numbered (List ℕ) → Numbered CopyState → ℕ → List (List ℕ) → Option Reserved → Needs
+abbrev pub commit_needs : ByNumber (List ℕ) → ByNumber CopyState → ℕ → List (List ℕ) → Option Reserved → Needs
 commit_needs contents copies n sums None = no_needs
 commit_needs contents copies n sums (Some r) = commit_of contents n sums r (map.get copies r.bfid.0)
 
@@ -336,7 +336,7 @@ abbrev pub abort : GroupId → ℕ → Option Reserved → Plan
 abort g n None = no_token g
 abort g n (Some r) = record (group_quiet_plan g answer.Aborted) { ends = ending.Reservation g n r.bfid }
 
-abbrev pub abort_needs : Numbered CopyState → ℕ → Option Reserved → Needs
+abbrev pub abort_needs : ByNumber CopyState → ℕ → Option Reserved → Needs
 abort_needs copies n None = no_needs
 abort_needs copies n (Some r) =
     of_tokens ((is_unmounted n (reservation_in (map.get copies r.bfid.0)), guard.PiecesUnmounted) ∷ [])
@@ -457,7 +457,7 @@ was_moved x sum (Some s) (Some t) = moved_by s.read
     moved_by None = false
     moved_by (Some bytes) = is_moved t.epoch x sum bytes t.written
 
-abbrev pub move_done_needs : Numbered MountState → Option (List ℕ) → Option Moving → Needs
+abbrev pub move_done_needs : ByNumber MountState → Option (List ℕ) → Option Moving → Needs
 move_done_needs mounts sum None = no_needs
 move_done_needs mounts sum (Some x) =
     of_tokens ((was_moved x sum (map.get mounts x.source) (map.get mounts x.target), guard.ChunkMoved) ∷ [])

@@ -10,7 +10,7 @@ use Rattle.dm_durable.specs.declared.group.GroupRecord.{GroupRecord}
 use Rattle.dm_durable.specs.declared.group.GroupStep.{GroupStep}
 use Rattle.dm_durable.specs.declared.group.GroupStep.TheVariants as step
 use Rattle.dm_durable.specs.Group.{group_after_record}
-use Rattle.dm_durable.specs.Tables.{Named}
+use Rattle.dm_durable.specs.Tables.{ByName}
 use Rattle.dm_model.specs.declared.plan.Ending.{Ending}
 use Rattle.dm_model.specs.declared.plan.Ending.TheVariants as ending
 use Rattle.dm_model.specs.declared.plan.Opening.{Opening}
@@ -48,7 +48,7 @@ group_after_ending (ending.Move g job source target) x = without_move job source
 -- ---- what is journalled
 
 -- a volume that was labelled is empty
-abbrev pub tips_after_step : Named ℕ → GroupStep → Named ℕ
+abbrev pub tips_after_step : ByName ℕ → GroupStep → ByName ℕ
 tips_after_step tips (step.Volume vsn slot version size) = map.insert tips vsn.0 first_zone
 tips_after_step tips (step.Commit b len chunks) = tips
 tips_after_step tips (step.Delete b) = tips
@@ -83,7 +83,7 @@ group_doubting (Some (payload.Group g r)) x = group_with_doubt (Some r) x
 -- ---- what is made
 
 -- each piece moves the tip of its volume behind its zone
-abbrev pub tips_behind : ℕ → List Piece → Named ℕ → Named ℕ
+abbrev pub tips_behind : ℕ → List Piece → ByName ℕ → ByName ℕ
 tips_behind chunk [] tips = tips
 tips_behind chunk (p ∷ ps) tips = tips_behind chunk ps (map.insert tips p.vsn.0 (as_word (zone_end chunk p)))
 
@@ -101,7 +101,7 @@ with_mounted m vsn epoch x = record x {
 }
 
 -- the tip of the target moves behind the zone, which has the one chunk
-abbrev pub tip_behind_moved : Moving → Named ℕ → Named ℕ
+abbrev pub tip_behind_moved : Moving → ByName ℕ → ByName ℕ
 tip_behind_moved x tips = map.insert tips x.to.vsn.0 (as_word (x.to.zone + weight x.version x.to.len))
 
 abbrev pub with_moving : ℕ → Moving → Group → Group

@@ -11,7 +11,7 @@ use Rattle.std.specs.Option.{option_to_list}
 use Rattle.std.specs.FinMap as map
 use Rattle.dm_base.specs.declared.volume.Chunk.{Chunk}
 use Rattle.dm_base.specs.declared.volume.Piece.{Piece}
-use Rattle.dm_durable.specs.Tables.{Numbered}
+use Rattle.dm_durable.specs.Tables.{ByNumber}
 use Rattle.dm_model.specs.declared.call.Call.TheVariants as call
 use Rattle.dm_model.specs.declared.call.Event.{Event}
 use Rattle.dm_model.specs.declared.call.Event.TheVariants as event
@@ -66,7 +66,7 @@ abbrev pub hashed_of_content : Reserved → Option (List ℕ) → List (List ℕ
 hashed_of_content r None = []
 hashed_of_content r (Some bytes) = flat_map (parts_of_piece r.chunk bytes) r.pieces
 
-abbrev pub hashed_by_commit : Numbered (List ℕ) → Option Reserved → List (List ℕ)
+abbrev pub hashed_by_commit : ByNumber (List ℕ) → Option Reserved → List (List ℕ)
 hashed_by_commit contents None = []
 hashed_by_commit contents (Some r) = hashed_of_content r (map.get contents r.bfid.0)
 
@@ -74,11 +74,11 @@ abbrev pub bytes_read : Option MountState → List (List ℕ)
 bytes_read None = []
 bytes_read (Some x) = option_to_list x.read
 
-abbrev pub hashed_by_move : Numbered MountState → Option Moving → List (List ℕ)
+abbrev pub hashed_by_move : ByNumber MountState → Option Moving → List (List ℕ)
 hashed_by_move mounts None = []
 hashed_by_move mounts (Some x) = cond (has_sum x.version) (bytes_read (map.get mounts x.source)) []
 
-abbrev pub hashed_in_group : Numbered (List ℕ) → Side → GroupCall → List (List ℕ)
+abbrev pub hashed_in_group : ByNumber (List ℕ) → Side → GroupCall → List (List ℕ)
 hashed_in_group contents s (group_call.Commit n sums now) = hashed_by_commit contents (map.get s.group.reservations n)
 hashed_in_group contents s (group_call.MoveDone job sum now) = hashed_by_move s.mounts (map.get s.group.moves job)
 hashed_in_group contents s c = []
@@ -118,7 +118,7 @@ abbrev pub parts_of_content : Option (List ℕ) → List Chunk → List (List �
 parts_of_content None chunks = []
 parts_of_content (Some bytes) chunks = parts_in bytes chunks
 
-abbrev pub parts_on : Numbered (List ℕ) → Side → List (List ℕ)
+abbrev pub parts_on : ByNumber (List ℕ) → Side → List (List ℕ)
 parts_on contents s =
     flat_map (λ e. parts_of_content (map.get contents e.0) e.1.chunks) (map.entries s.group.tables.bitfiles)
 

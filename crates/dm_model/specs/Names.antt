@@ -13,7 +13,7 @@ use Rattle.std.specs.List.{flat_map, list_any}
 use Rattle.std.specs.FinMap as map
 use Rattle.dm_base.specs.declared.identifier.Bfid.{Bfid}
 use Rattle.dm_base.specs.declared.identifier.GroupId.{GroupId}
-use Rattle.dm_durable.specs.Tables.{Numbered, same_text}
+use Rattle.dm_durable.specs.Tables.{ByNumber, same_text}
 use Rattle.dm_model.specs.declared.answer.Answer.{Answer}
 use Rattle.dm_model.specs.declared.answer.Answer.TheVariants as answer
 use Rattle.dm_model.specs.declared.call.Call.{Call}
@@ -26,7 +26,7 @@ use Rattle.dm_model.specs.declared.call.Event.{Event}
 use Rattle.dm_model.specs.declared.call.Event.TheVariants as event
 use Rattle.dm_model.specs.declared.call.GroupCall.{GroupCall}
 use Rattle.dm_model.specs.declared.call.GroupCall.TheVariants as group_call
-use Rattle.dm_model.specs.declared.entry.Entry.{Entry}
+use Rattle.dm_model.specs.declared.entry.HistoryEntry.{HistoryEntry}
 use Rattle.dm_model.specs.declared.entry.Name.{Name}
 use Rattle.dm_model.specs.declared.entry.Name.TheVariants.{Daemon, Worker, Side}
 use Rattle.dm_model.specs.declared.entry.Part.{Part}
@@ -155,7 +155,7 @@ owner_of w g None = Worker w
 owner_of w g (Some x) = owner_of_origin w g x.origin
 
 -- a mount and its owner
-abbrev pub mount_and_owner : ℕ → GroupId → Numbered MountState → ℕ → List Name
+abbrev pub mount_and_owner : ℕ → GroupId → ByNumber MountState → ℕ → List Name
 mount_and_owner w g mounts m = mount_name g m ∷ owner_of w g (map.get mounts m) ∷ []
 
 abbrev pub mounts_of_move : GroupId → Option Moving → List Name
@@ -282,11 +282,11 @@ ended_by event.Stop names = []
 
 -- ---- entries
 
-abbrev pub is_about : Entry → Name → Bool
+abbrev pub is_about : HistoryEntry → Name → Bool
 is_about e x = same_name (home_of e.event) x || list_any (same_name x) e.names
 
 -- an entry as one of a run
-abbrev pub run_entry_of : Entry → RunEntry
+abbrev pub run_entry_of : HistoryEntry → RunEntry
 run_entry_of e = record { worker = e.worker; event = e.event; answer = e.answer }
 
 -- ---- the names that are there from the beginning

@@ -12,7 +12,7 @@ use Rattle.dm_base.specs.declared.serial.Vsn.{Vsn}
 use Rattle.dm_durable.specs.declared.group.GroupStep.{GroupStep}
 use Rattle.dm_durable.specs.declared.group.GroupStep.TheVariants as step
 use Rattle.dm_durable.specs.declared.group.VolumeRow.{VolumeRow}
-use Rattle.dm_durable.specs.Tables.{Numbered, Named}
+use Rattle.dm_durable.specs.Tables.{ByNumber, ByName}
 use Rattle.dm_model.specs.declared.plan.Ending.{Ending}
 use Rattle.dm_model.specs.declared.plan.Ending.TheVariants as ending
 use Rattle.dm_model.specs.declared.plan.Mark.{Mark}
@@ -59,7 +59,7 @@ abbrev pub without_written : ℕ → CopyReservation → CopyReservation
 without_written index r = record r { written = map.remove r.written index }
 
 -- the copies after the end of a mount that was made for this
-abbrev pub copies_unmounted : ℕ → Origin → Numbered CopyState → Numbered CopyState
+abbrev pub copies_unmounted : ℕ → Origin → ByNumber CopyState → ByNumber CopyState
 copies_unmounted m (origin.New listed format) copies = copies
 copies_unmounted m (origin.Piece b index piece chunk) copies =
     adjust copies b.0 (reservation_by (without_piece_mount m))
@@ -68,12 +68,12 @@ copies_unmounted m (origin.Source job b chunk) copies = copies
 copies_unmounted m (origin.Target job b total chunk version) copies = copies
 copies_unmounted m (origin.Reuse next_epoch version reading) copies = copies
 
-abbrev pub copies_unmounted_if : ℕ → Option MountState → Numbered CopyState → Numbered CopyState
+abbrev pub copies_unmounted_if : ℕ → Option MountState → ByNumber CopyState → ByNumber CopyState
 copies_unmounted_if m None copies = copies
 copies_unmounted_if m (Some x) copies = copies_unmounted m x.origin copies
 
 -- the copies after a mount was made for this
-abbrev pub copies_mounted : ℕ → Origin → Numbered CopyState → Numbered CopyState
+abbrev pub copies_mounted : ℕ → Origin → ByNumber CopyState → ByNumber CopyState
 copies_mounted m (origin.New listed format) copies = copies
 copies_mounted m (origin.Piece b index piece chunk) copies =
     adjust copies b.0 (reservation_by (with_piece_mount m index))
@@ -122,15 +122,15 @@ without_known i = record i { known = map.empty }
 
 -- a volume that gets version 1 on a file that isn't faithful loses what was known of it: what was written while nothing
 -- bound its reads may not bind them now
-abbrev pub images_labelled : List ℕ → ℕ → ℕ → List ℕ → Named Image → Named Image
+abbrev pub images_labelled : List ℕ → ℕ → ℕ → List ℕ → ByName Image → ByName Image
 images_labelled faithful version slot vsn images =
     cond (nat_eq version first_version && not (is_faithful faithful slot)) (adjust images vsn without_known) images
 
-abbrev pub images_relabelled : List ℕ → ℕ → List ℕ → Option VolumeRow → Named Image → Named Image
+abbrev pub images_relabelled : List ℕ → ℕ → List ℕ → Option VolumeRow → ByName Image → ByName Image
 images_relabelled faithful version vsn None images = images
 images_relabelled faithful version vsn (Some v) images = images_labelled faithful version v.slot vsn images
 
-abbrev pub images_after_step : Side → GroupStep → Named Image
+abbrev pub images_after_step : Side → GroupStep → ByName Image
 images_after_step s (step.Volume vsn slot version size) = images_labelled s.faithful version slot vsn.0 s.images
 images_after_step s (step.Commit b len chunks) = s.images
 images_after_step s (step.Delete b) = s.images
@@ -139,14 +139,14 @@ images_after_step s (step.Free vsn) = s.images
 images_after_step s (step.Reuse vsn epoch version) =
     images_relabelled s.faithful version vsn.0 (map.get s.group.tables.volumes vsn.0) s.images
 
-abbrev pub images_after_payload : Side → Option Payload → Named Image
+abbrev pub images_after_payload : Side → Option Payload → ByName Image
 images_after_payload s None = s.images
 images_after_payload s (Some (payload.Daemon r)) = s.images
 images_after_payload s (Some (payload.Group g r)) = images_after_step s r.step
 
 -- ---- the parts of a plan
 
-abbrev pub copies_after_ending : Ending → Side → Numbered CopyState
+abbrev pub copies_after_ending : Ending → Side → ByNumber CopyState
 copies_after_ending ending.Nothing s = s.copies
 copies_after_ending (ending.Put k b groups) s = map.remove s.copies b.0
 copies_after_ending (ending.Recall k) s = s.copies
@@ -154,7 +154,7 @@ copies_after_ending (ending.Reservation g n b) s = adjust s.copies b.0 (with_res
 copies_after_ending (ending.Mount g m) s = copies_unmounted_if m (map.get s.mounts m) s.copies
 copies_after_ending (ending.Move g job source target) s = s.copies
 
-abbrev pub mounts_after_ending : Ending → Side → Numbered MountState
+abbrev pub mounts_after_ending : Ending → Side → ByNumber MountState
 mounts_after_ending ending.Nothing s = s.mounts
 mounts_after_ending (ending.Put k b groups) s = s.mounts
 mounts_after_ending (ending.Recall k) s = s.mounts
@@ -218,7 +218,7 @@ side_after_failed_mark (mark.Read g b offset bytes) s = s
 side_after_failed_mark (mark.Source g m bytes) s = s
 side_after_failed_mark (mark.Deleted g b) s = s
 
-abbrev pub copies_after_opening : Opening → Numbered CopyState → Numbered CopyState
+abbrev pub copies_after_opening : Opening → ByNumber CopyState → ByNumber CopyState
 copies_after_opening opening.Nothing copies = copies
 copies_after_opening (opening.Put k r len groups) copies =
     map.insert copies r.bfid.0 (record { request = k; len = len; reservation = None })
@@ -229,7 +229,7 @@ copies_after_opening (opening.Mount g m vsn epoch made) copies = copies_mounted 
 copies_after_opening (opening.Move g job moving source_epoch target_epoch) copies = copies
 copies_after_opening (opening.Reuse g m epoch reusing reading) copies = copies
 
-abbrev pub mounts_after_opening : Opening → Side → Numbered MountState
+abbrev pub mounts_after_opening : Opening → Side → ByNumber MountState
 mounts_after_opening opening.Nothing s = s.mounts
 mounts_after_opening (opening.Put k r len groups) s = s.mounts
 mounts_after_opening (opening.Recall k r recall) s = s.mounts

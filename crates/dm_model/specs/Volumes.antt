@@ -8,7 +8,7 @@ use Rattle.std.specs.FinMap as map
 use Rattle.dm_base.specs.declared.error.GroupError.TheVariants.{NotYet}
 use Rattle.dm_base.specs.declared.volume.VolRow.{VolRow}
 use Rattle.dm_durable.specs.declared.group.VolumeRow.{VolumeRow}
-use Rattle.dm_durable.specs.Tables.{Numbered, same_text}
+use Rattle.dm_durable.specs.Tables.{ByNumber, same_text}
 use Rattle.dm_durable.specs.Volumes.{Usage, epoch_or, is_listed, live_on, of_serial, state_in, tip_in}
 use Rattle.dm_model.specs.declared.answer.Answer.{Answer}
 use Rattle.dm_model.specs.declared.answer.Answer.TheVariants.{GroupRefused}
@@ -21,18 +21,18 @@ use Rattle.dm_tables.specs.Rows.{any}
 
 -- ---- what is open on a volume
 
-abbrev pub is_mounted : Numbered Mounted → List ℕ → Bool
+abbrev pub is_mounted : ByNumber Mounted → List ℕ → Bool
 is_mounted mounts vsn = any (λ m x. same_text x.vsn.0 vsn) mounts
 
 -- whether a reservation has a piece there
 abbrev pub has_piece_on : List ℕ → Reserved → Bool
 has_piece_on vsn r = list_any (λ p. same_text p.vsn.0 vsn) r.pieces
 
-abbrev pub is_reserved : Numbered Reserved → List ℕ → Bool
+abbrev pub is_reserved : ByNumber Reserved → List ℕ → Bool
 is_reserved reservations vsn = any (λ n r. has_piece_on vsn r) reservations
 
 -- whether it is about to be labelled anew
-abbrev pub is_being_reused : Numbered Reusing → List ℕ → Bool
+abbrev pub is_being_reused : ByNumber Reusing → List ℕ → Bool
 is_being_reused reuses vsn = any (λ m x. same_text x.vsn.0 vsn) reuses
 
 abbrev pub usage_of : Group → Usage

@@ -30,7 +30,7 @@ pub enum Name {
 /// An entry of a history: who did what, what it was answered, and what it was about beside its home. The names can't be
 /// computed from the event alone, so the entry carries them.
 #[derive(Drop)]
-pub struct Entry {
+pub struct HistoryEntry {
     pub worker: u32,
     pub event: Event,
     pub answer: Answer,

@@ -22,7 +22,7 @@ mod state;
 
 pub use answer::Answer;
 pub use call::{Call, Component, DaemonCall, Event, GroupCall, VolumeCall};
-pub use entry::{Entry, Name, Part};
+pub use entry::{HistoryEntry, Name, Part};
 pub use guard::Guard;
 pub use plan::{Ending, Mark, Opening, Payload, Prepared};
 pub use state::{

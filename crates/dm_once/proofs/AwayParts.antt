@@ -12,7 +12,7 @@ use Rattle.dm_durable.specs.declared.group.GroupStep.{GroupStep}
 use Rattle.dm_durable.specs.declared.group.GroupStep.TheVariants as step
 use Rattle.dm_durable.specs.declared.group.GroupTables.{GroupTables}
 use Rattle.dm_durable.specs.Group.{group_after_step, with_chunk}
-use Rattle.dm_durable.specs.Tables.{Numbered}
+use Rattle.dm_durable.specs.Tables.{ByNumber}
 use Rattle.dm_model.specs.declared.plan.Ending.{Ending}
 use Rattle.dm_model.specs.declared.plan.Ending.TheVariants as ending
 use Rattle.dm_model.specs.declared.plan.Mark.{Mark}
@@ -26,7 +26,7 @@ use Rattle.dm_model.specs.SideShare.{side_doubting, side_without_doubt}
 use Rattle.dm_landing.proofs.VolumeBitfiles.{still_away}
 use Rattle.dm_once.specs.Away.{CommitsOther}
 
-away_adjusted : (m : Numbered BitfileRow) (k q : ℕ) (f : BitfileRow → BitfileRow) → map.get m q ≡ None → map.get (adjust m k f) q ≡ None
+away_adjusted : (m : ByNumber BitfileRow) (k q : ℕ) (f : BitfileRow → BitfileRow) → map.get m q ≡ None → map.get (adjust m k f) q ≡ None
 away_adjusted m k q f none =
     elim (same_or numbers k q) [
       | inl same ↦

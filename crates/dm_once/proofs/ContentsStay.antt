@@ -11,7 +11,7 @@ use Rattle.dm_durable.specs.declared.daemon.DaemonTables.{DaemonTables}
 use Rattle.dm_durable.specs.declared.group.GroupRecord.{GroupRecord}
 use Rattle.dm_durable.specs.Inodes.{bytes_online}
 use Rattle.dm_durable.specs.DaemonConditions.{MayStep}
-use Rattle.dm_durable.specs.Tables.{Numbered}
+use Rattle.dm_durable.specs.Tables.{ByNumber}
 use Rattle.dm_model.specs.declared.answer.Answer.{Answer}
 use Rattle.dm_model.specs.declared.call.Call.{Call}
 use Rattle.dm_model.specs.declared.call.Call.TheVariants as call
@@ -44,12 +44,12 @@ use Rattle.dm_shown.proofs.RecordsShown.{contents_after}
 -- ---- a record
 
 -- a new content is of no bitfile that had one
-content_beside : (contents : Numbered (List ℕ)) (b d : ℕ) (o : Option File) (bytes : List ℕ) → d ≢ b → map.get contents d ≡ Some bytes
+content_beside : (contents : ByNumber (List ℕ)) (b d : ℕ) (o : Option File) (bytes : List ℕ) → d ≢ b → map.get contents d ≡ Some bytes
     → map.get (contents_with b o contents) d ≡ Some bytes
 content_beside contents b d None bytes differ is = is
 content_beside contents b d (Some f) bytes differ is = get-beside numbers contents b (bytes_online f.inode.contents) d differ ∙ is
 
-module _ (t : DaemonTables) (contents : Numbered (List ℕ)) (cap now : ℕ) (kept : FilesKept t contents cap) (d : ℕ) (bytes : List ℕ)
+module _ (t : DaemonTables) (contents : ByNumber (List ℕ)) (cap now : ℕ) (kept : FilesKept t contents cap) (d : ℕ) (bytes : List ℕ)
     (is : map.get contents d ≡ Some bytes) where
   step_stays : (s : DaemonStep) → MayStep t now s → map.get (contents_after t contents s) d ≡ Some bytes
   step_stays (BeginPut path b groups) may =

@@ -16,7 +16,7 @@ use Rattle.dm_durable.specs.declared.group.GroupStep.{GroupStep}
 use Rattle.dm_durable.specs.declared.group.GroupStep.TheVariants as group_step
 use Rattle.dm_durable.specs.declared.group.VolumeRow.{VolumeRow}
 use Rattle.dm_durable.specs.Group.{chunk_at}
-use Rattle.dm_durable.specs.Tables.{Numbered}
+use Rattle.dm_durable.specs.Tables.{ByNumber}
 use Rattle.dm_durable.specs.Volumes.{LiveChunk, destination_in, first_on, is_freeable_in, reusable_in}
 use Rattle.dm_rules.specs.declared.space.Space.{Space}
 use Rattle.std.proofs.lemmas.Option.{same_Some}
@@ -128,7 +128,7 @@ spares_if s e None q spares = spares
 spares_if s e (Some a) q spares = tt
 
 -- of the volume of a mount that is spent no other mount is open
-alone : (mounts : Numbered MountState) (m : ℕ) (y : MountState) (vsn : List ℕ)
+alone : (mounts : ByNumber MountState) (m : ℕ) (y : MountState) (vsn : List ℕ)
     → ((n l : ℕ) (x z : MountState) → map.get mounts n ≡ Some x → map.get mounts l ≡ Some z → x.vsn.0 ≡ z.vsn.0 → n ≡ l)
     → map.get mounts m ≡ Some y → y.vsn.0 ≡ vsn → EachRow (map.remove mounts m) (λ n x. x.vsn.0 ≢ vsn)
 alone mounts m y vsn apart is of =

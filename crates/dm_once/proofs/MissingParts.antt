@@ -13,7 +13,7 @@ use Rattle.dm_durable.specs.declared.group.GroupStep.TheVariants as step
 use Rattle.dm_durable.specs.declared.group.GroupTables.{GroupTables}
 use Rattle.dm_durable.specs.declared.group.VolumeRow.{VolumeRow}
 use Rattle.dm_durable.specs.Group.{as_held, as_reused, group_after_step, new_volume, with_end_behind, with_ends_behind}
-use Rattle.dm_durable.specs.Tables.{Named}
+use Rattle.dm_durable.specs.Tables.{ByName}
 use Rattle.dm_model.specs.declared.plan.Ending.{Ending}
 use Rattle.dm_model.specs.declared.plan.Ending.TheVariants as ending
 use Rattle.dm_model.specs.declared.plan.Mark.{Mark}
@@ -36,7 +36,7 @@ there_mapped : (f : VolumeRow → VolumeRow) (o : Option VolumeRow) → is_some 
 there_mapped f None = refl
 there_mapped f (Some v) = refl
 
-there_adjusted : (volumes : Named VolumeRow) (k q : List ℕ) (f : VolumeRow → VolumeRow)
+there_adjusted : (volumes : ByName VolumeRow) (k q : List ℕ) (f : VolumeRow → VolumeRow)
     → is_some (map.get (adjust volumes k f) q) ≡ is_some (map.get volumes q)
 there_adjusted volumes k q f =
     elim (same_or paths k q) [
@@ -46,7 +46,7 @@ there_adjusted volumes k q f =
       | inr differ ↦ ap is_some (adjusted-beside paths volumes k f q differ)
     ]
 
-there_raised : (chunks : List Chunk) (volumes : Named VolumeRow) (q : List ℕ)
+there_raised : (chunks : List Chunk) (volumes : ByName VolumeRow) (q : List ℕ)
     → is_some (map.get (with_ends_behind chunks volumes) q) ≡ is_some (map.get volumes q)
 unfolding with_ends_behind
 there_raised [] volumes q = refl
@@ -71,7 +71,7 @@ there_stays t (step.Move b from to) q spares = there_adjusted t.volumes to.vsn.0
 there_stays t (step.Free vsn) q spares = there_adjusted t.volumes vsn.0 q (as_held t.time.0)
 there_stays t (step.Reuse vsn epoch version) q spares = there_adjusted t.volumes vsn.0 q (as_reused epoch version)
 
-listed_stays : (volumes after : Named VolumeRow) (q : List ℕ) (made : Origin) → is_some (map.get after q) ≡ is_some (map.get volumes q)
+listed_stays : (volumes after : ByName VolumeRow) (q : List ℕ) (made : Origin) → is_some (map.get after q) ≡ is_some (map.get volumes q)
     → ListedAs volumes q made → ListedAs after q made
 listed_stays volumes after q (origin.New listed format) same k = k ∙ sym same
 listed_stays volumes after q (origin.Piece b index p chunk) same k = tt
@@ -85,7 +85,7 @@ listed_stays volumes after q (origin.Reuse next_epoch version reading) same k = 
 abbrev pub SideListed : ℕ → Side → Type 0
 SideListed g s = MountsListed s.group.tables.volumes s.mounts
 
-abbrev IsListedAs : Named VolumeRow → ℕ → MountState → Type 0
+abbrev IsListedAs : ByName VolumeRow → ℕ → MountState → Type 0
 IsListedAs volumes m x = ListedAs volumes x.vsn.0 x.origin
 
 -- no mount is of the volume that a record adds

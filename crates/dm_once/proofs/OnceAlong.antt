@@ -15,7 +15,7 @@ use Rattle.dm_durable.specs.declared.group.GroupStep.TheVariants as group_step
 use Rattle.dm_durable.specs.declared.group.VolumeRow.{VolumeRow}
 use Rattle.dm_rules.specs.Version.{has_sum}
 use Rattle.dm_durable.specs.GroupConditions.{MayGroupStep}
-use Rattle.dm_durable.specs.Tables.{Numbered}
+use Rattle.dm_durable.specs.Tables.{ByNumber}
 use Rattle.dm_model.specs.declared.answer.Answer.{Answer}
 use Rattle.dm_model.specs.declared.call.Call.{Call}
 use Rattle.dm_model.specs.declared.call.Call.TheVariants as call
@@ -71,7 +71,7 @@ use Rattle.dm_once.proofs.SidesAlong.{all_called, all_faulted, all_landed, all_s
 
 -- ---- contents that stay
 
-with_contents : (contents after : Numbered (List ℕ)) (epoch b : ℕ) (c : Chunk) (s : Side)
+with_contents : (contents after : ByNumber (List ℕ)) (epoch b : ℕ) (c : Chunk) (s : Side)
     → ((bytes : List ℕ) → map.get contents b ≡ Some bytes → map.get after b ≡ Some bytes)
     → WasLive contents s.group.tables.volumes s.images s.group.reservations s.group.moves epoch b c
     → WasLive after s.group.tables.volumes s.images s.group.reservations s.group.moves epoch b c
@@ -107,7 +107,7 @@ healed_tables s true = refl
 healed_tables s false = refl
 
 module _ (j : Joint) (w : ℕ) (kept : InvariantHolds j) (g0 epoch b : ℕ) (c : Chunk) where
-  abbrev contents : Numbered (List ℕ)
+  abbrev contents : ByNumber (List ℕ)
   contents = j.history.contents
 
   abbrev All : Joint → Type 0

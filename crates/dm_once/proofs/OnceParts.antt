@@ -17,7 +17,7 @@ use Rattle.dm_durable.specs.declared.group.GroupStep.TheVariants as step
 use Rattle.dm_durable.specs.declared.group.GroupTables.{GroupTables}
 use Rattle.dm_durable.specs.declared.group.VolumeRow.{VolumeRow}
 use Rattle.dm_durable.specs.Group.{as_held, as_reused, group_after_step, new_volume, with_end_behind, with_ends_behind}
-use Rattle.dm_durable.specs.Tables.{Numbered, Named}
+use Rattle.dm_durable.specs.Tables.{ByNumber, ByName}
 use Rattle.dm_model.specs.declared.plan.Ending.{Ending}
 use Rattle.dm_model.specs.declared.plan.Ending.TheVariants as ending
 use Rattle.dm_model.specs.declared.plan.Mark.{Mark}
@@ -41,14 +41,14 @@ use Rattle.dm_landing.proofs.VolumeEndsRaised.{raised_by}
 use Rattle.dm_effects.proofs.ImagesChanged.{KnownBeside, Spares, image_forgotten, image_written, range_beside}
 use Rattle.dm_once.specs.WasLive.{WasLive}
 
-module _ (contents : Numbered (List ℕ)) (g0 epoch b : ℕ) (c : Chunk) where
+module _ (contents : ByNumber (List ℕ)) (g0 epoch b : ℕ) (c : Chunk) where
   -- ---- what changes around the chunk
 
-  abbrev Was : Named VolumeRow → Named Image → Numbered Reserved → Numbered Moving → Type 0
+  abbrev Was : ByName VolumeRow → ByName Image → ByNumber Reserved → ByNumber Moving → Type 0
   Was volumes images reservations moves = WasLive contents volumes images reservations moves epoch b c
 
   -- the volume's row, where it keeps its epoch and version and its end doesn't fall
-  with_row : (volumes after : Named VolumeRow) (images later : Named Image) (reservations : Numbered Reserved) (moves : Numbered Moving) (w : VolumeRow)
+  with_row : (volumes after : ByName VolumeRow) (images later : ByName Image) (reservations : ByNumber Reserved) (moves : ByNumber Moving) (w : VolumeRow)
       → map.get after c.vsn.0 ≡ Some w → (k : Was volumes images reservations moves) → w.epoch ≡ k.volume.epoch → w.version ≡ k.volume.version
       → k.volume.end ≤ w.end → known_on later c.vsn.0 ≡ known_on images c.vsn.0 → Was after later reservations moves
   with_row volumes after images later reservations moves w is k same version end known = record {
@@ -69,7 +69,7 @@ module _ (contents : Numbered (List ℕ)) (g0 epoch b : ℕ) (c : Chunk) where
   }
 
   -- what is in hand, where nothing new of it meets the chunk
-  with_hands : (volumes : Named VolumeRow) (images : Named Image) (reservations more : Numbered Reserved) (moves further : Numbered Moving)
+  with_hands : (volumes : ByName VolumeRow) (images : ByName Image) (reservations more : ByNumber Reserved) (moves further : ByNumber Moving)
       → (k : Was volumes images reservations moves)
       → (k.volume.epoch ≡ epoch → (n offset place : ℕ) → ChunkCovers c c.vsn.0 place → HasReserving more n offset c.vsn.0 place
       → HasReserving reservations n offset c.vsn.0 place)
@@ -93,7 +93,7 @@ module _ (contents : Numbered (List ℕ)) (g0 epoch b : ℕ) (c : Chunk) where
   }
 
   -- what is known, where the chunk has no place of what changed
-  with_images : (volumes : Named VolumeRow) (images later : Named Image) (reservations : Numbered Reserved) (moves : Numbered Moving) (vsn : List ℕ)
+  with_images : (volumes : ByName VolumeRow) (images later : ByName Image) (reservations : ByNumber Reserved) (moves : ByNumber Moving) (vsn : List ℕ)
       (place n : ℕ) → KnownBeside vsn place n images later → (k : Was volumes images reservations moves)
       → (k.volume.epoch ≡ epoch → Spares vsn place n c) → Was volumes later reservations moves
   with_images volumes images later reservations moves vsn place n beside k spares = record {
@@ -121,7 +121,7 @@ module _ (contents : Numbered (List ℕ)) (g0 epoch b : ℕ) (c : Chunk) where
   abbrev pub SideWas : ℕ → Side → Type 0
   SideWas g s = g ≡ g0 → Was s.group.tables.volumes s.images s.group.reservations s.group.moves
 
-  kept_fewer : (reservations : Numbered Reserved) (gone n offset : ℕ) (vsn : List ℕ) (place : ℕ) → HasReserving (map.remove reservations gone) n offset vsn place
+  kept_fewer : (reservations : ByNumber Reserved) (gone n offset : ℕ) (vsn : List ℕ) (place : ℕ) → HasReserving (map.remove reservations gone) n offset vsn place
       → HasReserving reservations n offset vsn place
   kept_fewer reservations gone n offset vsn place h = record {
     reserved = h.reserved;
@@ -132,7 +132,7 @@ module _ (contents : Numbered (List ℕ)) (g0 epoch b : ℕ) (c : Chunk) where
     covers = h.covers;
   }
 
-  target_fewer : (moves : Numbered Moving) (gone job : ℕ) (vsn : List ℕ) (place : ℕ) → HasTarget (map.remove moves gone) job vsn place
+  target_fewer : (moves : ByNumber Moving) (gone job : ℕ) (vsn : List ℕ) (place : ℕ) → HasTarget (map.remove moves gone) job vsn place
       → HasTarget moves job vsn place
   target_fewer moves gone job vsn place h =
       record { moving = h.moving; is = (removed numbers moves gone job h.moving h.is).1; covers = h.covers }
@@ -177,7 +177,7 @@ module _ (contents : Numbered (List ℕ)) (g0 epoch b : ℕ) (c : Chunk) where
       with_row s.group.tables.volumes (with_ends_behind chunks s.group.tables.volumes) s.images s.images s.group.reservations s.group.moves r.0 r.1 k
       r.2.epoch r.2.version r.2.low refl
 
-  one_raised : (volumes : Named VolumeRow) (to : Chunk) → with_ends_behind (to ∷ []) volumes ≡ adjust volumes to.vsn.0 (with_end_behind to)
+  one_raised : (volumes : ByName VolumeRow) (to : Chunk) → with_ends_behind (to ∷ []) volumes ≡ adjust volumes to.vsn.0 (with_end_behind to)
   unfolding with_ends_behind
   one_raised volumes to = refl
 
@@ -196,7 +196,7 @@ module _ (contents : Numbered (List ℕ)) (g0 epoch b : ℕ) (c : Chunk) where
             (adjusted-beside paths volumes vsn (as_held time) c.vsn.0 differ ∙ k.is) k refl refl (omega arith) refl
       ]
 
-  relabelled_beside : (faithful : List ℕ) (version : ℕ) (vsn q : List ℕ) (o : Option VolumeRow) (images : Named Image) → q ≢ vsn
+  relabelled_beside : (faithful : List ℕ) (version : ℕ) (vsn q : List ℕ) (o : Option VolumeRow) (images : ByName Image) → q ≢ vsn
       → known_on (images_relabelled faithful version vsn o images) q ≡ known_on images q
   relabelled_beside faithful version vsn q None images differ = refl
   relabelled_beside faithful version vsn q (Some v) images differ = labelled_beside faithful version v.slot vsn q images differ
@@ -266,7 +266,7 @@ module _ (contents : Numbered (List ℕ)) (g0 epoch b : ℕ) (c : Chunk) where
   MarksRight g s (mark.Source h m bytes) = Unit {0}
   MarksRight g s (mark.Deleted h d) = Unit {0}
 
-  was_changed : (g : ℕ) (s : Side) (later : Named Image) (vsn : List ℕ) (place n : ℕ) → KnownBeside vsn place n s.images later
+  was_changed : (g : ℕ) (s : Side) (later : ByName Image) (vsn : List ℕ) (place n : ℕ) → KnownBeside vsn place n s.images later
       → ((v : VolumeRow) → StillThere contents s.images s.group.reservations s.group.moves v b c → Spares vsn place n c) → SideWas g s
       → g ≡ g0 → Was s.group.tables.volumes later s.group.reservations s.group.moves
   was_changed g s later vsn place n beside spares k = λ same.

@@ -12,7 +12,7 @@ use Rattle.dm_tables.proofs.Rows.{one_row}
 use Rattle.dm_durable.specs.declared.group.BitfileRow.{BitfileRow}
 use Rattle.dm_durable.specs.declared.group.VolumeRow.{VolumeRow}
 use Rattle.dm_durable.specs.Group.{chunk_at}
-use Rattle.dm_durable.specs.Tables.{Numbered}
+use Rattle.dm_durable.specs.Tables.{ByNumber}
 use Rattle.dm_durable.specs.Volumes.{LiveChunk, destination_in, first_on, is_freeable_in, planned_pieces, reusable_in, tip_in}
 use Rattle.dm_model.specs.declared.answer.Answer.{Answer}
 use Rattle.dm_model.specs.declared.call.Component.TheVariants as component
@@ -50,7 +50,7 @@ none_of : {X : Type 0} (o : Option X) → is_none o ≡ true → o ≡ None
 none_of None is = refl
 none_of (Some x) is = absurd (cc)
 
-module _ (contents : Numbered (List ℕ)) (g0 epoch b : ℕ) (c : Chunk) where
+module _ (contents : ByNumber (List ℕ)) (g0 epoch b : ℕ) (c : Chunk) where
   abbrev pub PaysWas : Joint → Option Payload → Type 0
   PaysWas j o =
       PaysIf (SideWas contents g0 epoch b c) (PaysRight contents g0 epoch b c) (MarksRight contents g0 epoch b c) (OpensRight contents g0 epoch b c)

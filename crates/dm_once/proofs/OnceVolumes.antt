@@ -11,7 +11,7 @@ use Rattle.dm_base.specs.declared.volume.Piece.{Piece}
 use Rattle.dm_rules.specs.Label.{first_zone, label}
 use Rattle.dm_rules.specs.Zone.{weight, zone_length}
 use Rattle.dm_durable.specs.declared.group.VolumeRow.{VolumeRow}
-use Rattle.dm_durable.specs.Tables.{Numbered, same_text}
+use Rattle.dm_durable.specs.Tables.{ByNumber, same_text}
 use Rattle.dm_model.specs.declared.plan.Mark.{Mark}
 use Rattle.dm_model.specs.declared.plan.Mark.TheVariants as mark
 use Rattle.dm_model.specs.declared.state.Joint.{Joint}
@@ -48,7 +48,7 @@ six_characters conf vsn fits is =
     let v = passing (λ (v : Vsn). same_text v.0 vsn) conf.volumes is in
     ap length (sym (texts_equal v.0.0 vsn v.2)) ∙ (fits.serials v.0 v.1).six
 
-module _ (contents : Numbered (List ℕ)) (g0 epoch b : ℕ) (c : Chunk) (j : Joint) (kept : InvariantHolds j) (g : GroupId) (s : Side)
+module _ (contents : ByNumber (List ℕ)) (g0 epoch b : ℕ) (c : Chunk) (j : Joint) (kept : InvariantHolds j) (g : GroupId) (s : Side)
     (side : map.get j.sides g.0 ≡ Some s) (vsn : Vsn) (x : MountState) (m : ℕ) (mount : map.get s.mounts m ≡ Some x) (on : x.vsn.0 ≡ vsn.0) where
   abbrev K : SideKept j.daemon.tables.entries j.history.contents j.history.taken j.daemon.requests g.0 (committed_in (map.get j.history.groups g.0))
       (deleted_in (map.get j.history.groups g.0)) s

@@ -18,7 +18,7 @@ use Rattle.dm_durable.specs.declared.group.GroupStep.TheVariants as group_step
 use Rattle.dm_durable.specs.declared.group.VolumeRow.{VolumeRow}
 use Rattle.dm_durable.specs.Group.{chunk_at}
 use Rattle.dm_durable.specs.GroupConditions.{MayGroupStep, MayMove}
-use Rattle.dm_durable.specs.Tables.{Numbered}
+use Rattle.dm_durable.specs.Tables.{ByNumber}
 use Rattle.dm_durable.specs.Volumes.{LiveChunk, destination_in, first_on, is_freeable_in, reusable_in}
 use Rattle.dm_rules.specs.declared.space.Space.{Space}
 use Rattle.dm_model.specs.declared.answer.Answer.{Answer}
@@ -345,7 +345,7 @@ module _ (g0 b : ℕ) (spans : List (ℕ × ℕ)) where
         let one : side_without_doubt p.heals (side_after_ending p.ends s) ≡ x = same_value _ x (sym (healed_side p of) ∙ here) in
         let rows : s.group.tables.bitfiles ≡ x.group.tables.bitfiles =
         sym (tables_healed p.heals (side_after_ending p.ends s) ∙ tables_ended p.ends s) ∙ ap (λ (y : Side). y.group.tables.bitfiles) one in
-        subst (λ (m : Numbered BitfileRow). KeepsRow m b r.step) rows (keeps (number ∙ same))
+        subst (λ (m : ByNumber BitfileRow). KeepsRow m b r.step) rows (keeps (number ∙ same))
 
     -- a step in doubt
     landed_keeping : (o : Option GroupRecord)
@@ -356,7 +356,7 @@ module _ (g0 b : ℕ) (spans : List (ℕ × ℕ)) where
         let one : side_without_doubt true s ≡ x = same_value _ x (sym (healing-at g true j.sides s side) ∙ at) in
         let record_same : q ≡ r = same_value q r is in
         let rows : s.group.tables.bitfiles ≡ x.group.tables.bitfiles = ap (λ (y : Side). y.group.tables.bitfiles) one in
-        subst (λ (m : Numbered BitfileRow). KeepsRow m b r.step) rows
+        subst (λ (m : ByNumber BitfileRow). KeepsRow m b r.step) rows
         (subst (λ (y : GroupRecord). KeepsRow s.group.tables.bitfiles b y.step) record_same (step_keeps q.time.0 q.step may.follow.step may.needs same))
 
   -- ---- an event

@@ -13,7 +13,7 @@ use Rattle.dm_durable.specs.declared.group.GroupStep.{GroupStep}
 use Rattle.dm_durable.specs.declared.group.GroupStep.TheVariants as step
 use Rattle.dm_durable.specs.declared.group.GroupTables.{GroupTables}
 use Rattle.dm_durable.specs.Group.{chunk_or_moved, group_after_step, with_chunk}
-use Rattle.dm_durable.specs.Tables.{Numbered}
+use Rattle.dm_durable.specs.Tables.{ByNumber}
 use Rattle.dm_model.specs.declared.plan.Ending.{Ending}
 use Rattle.dm_model.specs.declared.plan.Ending.TheVariants as ending
 use Rattle.dm_model.specs.declared.plan.Mark.{Mark}
@@ -27,7 +27,7 @@ use Rattle.dm_model.specs.SideShare.{side_doubting, side_without_doubt}
 use Rattle.dm_ongoing.specs.Spans.{RowHasSpans, span_of}
 
 -- a step is no delete and no commit of the bitfile, and its chunk that it moves has the same span
-abbrev pub KeepsRow : Numbered BitfileRow → ℕ → GroupStep → Type 0
+abbrev pub KeepsRow : ByNumber BitfileRow → ℕ → GroupStep → Type 0
 KeepsRow bitfiles b (step.Volume vsn slot version size) = Unit {0}
 KeepsRow bitfiles b (step.Commit d len chunks) = d.0 ≡ b → ⊥
 KeepsRow bitfiles b (step.Delete d) = d.0 ≡ b → ⊥
@@ -37,10 +37,10 @@ KeepsRow bitfiles b (step.Move d from to) =
 KeepsRow bitfiles b (step.Free vsn) = Unit {0}
 KeepsRow bitfiles b (step.Reuse vsn epoch version) = Unit {0}
 
-spans_beside : (m n : Numbered BitfileRow) (b : ℕ) (spans : List (ℕ × ℕ)) → map.get n b ≡ map.get m b → RowHasSpans m b spans → RowHasSpans n b spans
+spans_beside : (m n : ByNumber BitfileRow) (b : ℕ) (spans : List (ℕ × ℕ)) → map.get n b ≡ map.get m b → RowHasSpans m b spans → RowHasSpans n b spans
 spans_beside m n b spans same has = record { row = has.row; is = same ∙ has.is; same = has.same }
 
-spans_changed : (m : Numbered BitfileRow) (d b : ℕ) (spans : List (ℕ × ℕ)) (f : BitfileRow → BitfileRow)
+spans_changed : (m : ByNumber BitfileRow) (d b : ℕ) (spans : List (ℕ × ℕ)) (f : BitfileRow → BitfileRow)
     → (d ≡ b → (row : BitfileRow) → map.get m b ≡ Some row → prelude.map span_of (f row).chunks ≡ prelude.map span_of row.chunks)
     → RowHasSpans m b spans → RowHasSpans (adjust m d f) b spans
 spans_changed m d b spans f alike has =

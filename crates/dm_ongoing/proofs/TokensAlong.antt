@@ -6,7 +6,7 @@ use Rattle.dm_base.specs.declared.serial.Vsn.{Vsn}
 use Rattle.dm_tables.specs.Rows.{EachRow, adjust}
 use Rattle.dm_tables.proofs.Adjusted.{each-adjust}
 use Rattle.dm_tables.proofs.Orders.{numbers}
-use Rattle.dm_durable.specs.Tables.{Numbered}
+use Rattle.dm_durable.specs.Tables.{ByNumber}
 use Rattle.dm_model.specs.declared.answer.Answer.{Answer}
 use Rattle.dm_model.specs.declared.call.Call.{Call}
 use Rattle.dm_model.specs.declared.call.Call.TheVariants as call
@@ -98,7 +98,7 @@ module _ (j : Joint) where
   MadeNew (opening.Move g job x source_epoch target_epoch) = NewIn g (opening.Move g job x source_epoch target_epoch)
   MadeNew (opening.Reuse g m epoch x reading) = NewIn g (opening.Reuse g m epoch x reading)
 
-  one_rises : (g : GroupId) (o : Opening) (sides : Numbered Side) → NewIn g o
+  one_rises : (g : GroupId) (o : Opening) (sides : ByNumber Side) → NewIn g o
       → EachRow sides (SideLeft j) → EachRow (adjust sides g.0 (side_after_opening o)) (SideRises j)
   one_rises g o sides new left =
       each-adjust numbers (SideRises j) sides g.0 (side_after_opening o)

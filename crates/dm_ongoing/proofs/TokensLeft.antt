@@ -6,7 +6,7 @@ use Rattle.dm_tables.specs.Rows.{EachRow}
 use Rattle.dm_tables.proofs.Orders.{numbers}
 use Rattle.dm_tables.proofs.Rows.{each-insert, each-remove}
 use Rattle.dm_durable.specs.declared.group.GroupRecord.{GroupRecord}
-use Rattle.dm_durable.specs.Tables.{Numbered}
+use Rattle.dm_durable.specs.Tables.{ByNumber}
 use Rattle.dm_model.specs.declared.plan.Ending.{Ending}
 use Rattle.dm_model.specs.declared.plan.Ending.TheVariants as ending
 use Rattle.dm_model.specs.declared.plan.Mark.{Mark}
@@ -25,28 +25,28 @@ use Rattle.dm_ongoing.specs.TokensRise.{NumbersRise, TokensRise}
 -- ---- one table of tokens
 
 -- the next number stands, and each that is open was open
-pub record Left {X : Type 0} (before after : Numbered X) (next next_after : ℕ) : Type 0 where
+pub record Left {X : Type 0} (before after : ByNumber X) (next next_after : ℕ) : Type 0 where
   pub same : next ≡ next_after
   pub rows : EachRow after (λ n x. map.get before n ≡ None → ⊥)
 
-module _ {X : Type 0} (before : Numbered X) (next : ℕ) where
+module _ {X : Type 0} (before : ByNumber X) (next : ℕ) where
   left_still : Left before before next next
   left_still = record { same = refl; rows = λ n x is none. (let e = is in let f = none in cc) }
 
-  left_less : (after : Numbered X) (next_after k : ℕ) → Left before after next next_after → Left before (map.remove after k) next next_after
+  left_less : (after : ByNumber X) (next_after k : ℕ) → Left before after next next_after → Left before (map.remove after k) next next_after
   left_less after next_after k l = record {
     same = l.same;
     rows = each-remove numbers (λ n x. map.get before n ≡ None → ⊥) after k l.rows;
   }
 
-  rise_still : (after : Numbered X) (next_after : ℕ) → Left before after next next_after → NumbersRise before after next next_after
+  rise_still : (after : ByNumber X) (next_after : ℕ) → Left before after next next_after → NumbersRise before after next next_after
   rise_still after next_after l = record {
     next = let e = l.same in omega (arith, e);
     made = λ n x is none. absurd (l.rows n x is none);
   }
 
   -- one more with a number that the next one is or is before
-  rise_more : (after : Numbered X) (next_after k : ℕ) (x : X) → next_after ≤ k → NumbersRise before after next next_after
+  rise_more : (after : ByNumber X) (next_after k : ℕ) (x : X) → next_after ≤ k → NumbersRise before after next next_after
       → NumbersRise before (map.insert after k x) next (k + 1)
   rise_more after next_after k x new r = record {
     next = let e = r.next in omega (arith, e, new);

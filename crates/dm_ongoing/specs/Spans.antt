@@ -5,7 +5,7 @@ use Rattle.std.specs.FinMap as map
 use Rattle.dm_base.specs.declared.volume.Chunk.{Chunk}
 use Rattle.dm_tables.specs.Rows.{EachRow}
 use Rattle.dm_durable.specs.declared.group.BitfileRow.{BitfileRow}
-use Rattle.dm_durable.specs.Tables.{Numbered}
+use Rattle.dm_durable.specs.Tables.{ByNumber}
 use Rattle.dm_model.specs.declared.state.Joint.{Joint}
 
 -- where a chunk begins in its bitfile, and how many bytes it has
@@ -13,7 +13,7 @@ abbrev pub span_of : Chunk → ℕ × ℕ
 span_of c = (c.offset, c.len)
 
 -- the bitfile is there, in chunks of these spans
-pub record RowHasSpans (bitfiles : Numbered BitfileRow) (b : ℕ) (spans : List (ℕ × ℕ)) : Type 0 where
+pub record RowHasSpans (bitfiles : ByNumber BitfileRow) (b : ℕ) (spans : List (ℕ × ℕ)) : Type 0 where
   pub row : BitfileRow
   pub is : map.get bitfiles b ≡ Some row
   pub same : prelude.map span_of row.chunks ≡ spans

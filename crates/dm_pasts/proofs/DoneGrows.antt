@@ -11,7 +11,7 @@ use Rattle.dm_model.specs.declared.call.Component.{Component}
 use Rattle.dm_model.specs.declared.call.Component.TheVariants as component
 use Rattle.dm_model.specs.declared.call.Event.{Event}
 use Rattle.dm_model.specs.declared.call.Event.TheVariants as event
-use Rattle.dm_model.specs.declared.entry.Entry.{Entry}
+use Rattle.dm_model.specs.declared.entry.HistoryEntry.{HistoryEntry}
 use Rattle.dm_model.specs.declared.entry.Name.TheVariants.{Daemon, Side}
 use Rattle.dm_model.specs.declared.entry.Part.TheVariants as part
 use Rattle.dm_model.specs.declared.plan.Payload.{Payload}
@@ -150,13 +150,13 @@ module _ (i j : Joint) (w : ℕ) (keys : SameGroups i j) (done : StaysDone i.his
 -- ---- two pasts
 
 -- what is known of two pasts that were gone through side by side
-pub record Follows (begun : Begun) (dx dy : List (ℕ × Entry)) : Type 0 where
+pub record Follows (begun : Begun) (dx dy : List (ℕ × HistoryEntry)) : Type 0 where
   pub agrees : Agrees begun dx dy
   pub done : StaysDone (state_seen begun.opened dx).history (state_seen begun.opened dy).history
   pub asked : CopiesAreAsked (state_seen begun.opened dy)
 
 module _ (begun : Begun) (opened : Opened begun.opened) where
-  lone : (low : ℕ) (dx rx dy ry : List (ℕ × Entry)) (a : ℕ × Entry) → Walk begun low dx rx dy (a ∷ ry) → Follows begun dx dy → Follows begun dx (dy ++ a ∷ [])
+  lone : (low : ℕ) (dx rx dy ry : List (ℕ × HistoryEntry)) (a : ℕ × HistoryEntry) → Walk begun low dx rx dy (a ∷ ry) → Follows begun dx dy → Follows begun dx (dy ++ a ∷ [])
   lone low dx rx dy ry a walk follows =
       let j = state_seen begun.opened dy in
       let taken = (needed begun opened dy ry a walk.part.ordered walk.more).taken.taken in
@@ -169,7 +169,7 @@ module _ (begun : Begun) (opened : Opened begun.opened) where
         asked = subst CopiesAreAsked last (event_asks j follows.asked a.1.worker a.1.event (joint_after j a.1) a.1.answer taken);
       }
 
-  pair : (low : ℕ) (dx rx dy ry : List (ℕ × Entry)) (a : ℕ × Entry) → Walk begun low dx (a ∷ rx) dy (a ∷ ry) → Follows begun dx dy
+  pair : (low : ℕ) (dx rx dy ry : List (ℕ × HistoryEntry)) (a : ℕ × HistoryEntry) → Walk begun low dx (a ∷ rx) dy (a ∷ ry) → Follows begun dx dy
       → Follows begun (dx ++ a ∷ []) (dy ++ a ∷ [])
   pair low dx rx dy ry a walk follows =
       let i = state_seen begun.opened dx in
@@ -187,7 +187,7 @@ module _ (begun : Begun) (opened : Opened begun.opened) where
         asked = subst CopiesAreAsked last (event_asks j follows.asked a.1.worker a.1.event (joint_after j a.1) a.1.answer more.taken);
       }
 
-  pub pasts_follow : (xs ys : List (ℕ × Entry)) → IsPart history xs ys → Legal history begun xs → Legal history begun ys → Follows begun xs ys
+  pub pasts_follow : (xs ys : List (ℕ × HistoryEntry)) → IsPart history xs ys → Legal history begun xs → Legal history begun ys → Follows begun xs ys
   pasts_follow xs ys part legal more =
       go_on begun opened (Follows begun) lone pair 0 [] xs [] ys (walk_first begun opened xs ys part legal more)
       (record { agrees = λ z rooted all. alike_self z begun.opened; done = done_itself begun.opened.history; asked = opened_asks begun.opened opened })

@@ -11,7 +11,7 @@ use Rattle.dm_tables.proofs.Any.{any-false, any-none}
 use Rattle.dm_tables.proofs.Orders.{numbers}
 use Rattle.dm_durable.specs.declared.daemon.Entry.{Entry}
 use Rattle.dm_durable.specs.Entries.{groups_asked}
-use Rattle.dm_durable.specs.Tables.{Numbered}
+use Rattle.dm_durable.specs.Tables.{ByNumber}
 use Rattle.dm_model.specs.declared.call.Call.{Call}
 use Rattle.dm_model.specs.declared.call.Call.TheVariants as call
 use Rattle.dm_model.specs.declared.call.DaemonCall.{DaemonCall}
@@ -65,7 +65,7 @@ keep_same n m same = subst (λ x. NeedsKeep n x) same (keep_itself n)
 
 -- ---- the daemon
 
-configured_same : (sides later : Numbered SideState) → ((g : ℕ) → is_some (map.get sides g) ≡ is_some (map.get later g)) → (gs : List GroupId)
+configured_same : (sides later : ByNumber SideState) → ((g : ℕ) → is_some (map.get sides g) ≡ is_some (map.get later g)) → (gs : List GroupId)
     → are_configured sides gs ≡ are_configured later gs
 configured_same sides later keys [] = refl
 configured_same sides later keys (g ∷ gs) =
@@ -101,7 +101,7 @@ told_copy g b gs among = told gs among.among
     told (h ∷ hs) (inr after) = inr (told hs after)
 
 -- no copy of the bitfile has a reservation, where the copies that its entry asks for are the same in both and there is no other
-module _ (d : DaemonState) (sides later : Numbered SideState) (requests : Numbered OpenRequest)
+module _ (d : DaemonState) (sides later : ByNumber SideState) (requests : ByNumber OpenRequest)
     (keys : (g : ℕ) → is_some (map.get sides g) ≡ is_some (map.get later g))
     (asked : (g : ℕ) (t : SideState) → map.get later g ≡ Some t → (b : ℕ) (c : CopyState) → map.get t.copies b ≡ Some c → CopyIsAsked d.tables requests g b c)
     (r : OpenRequest)

@@ -1,6 +1,6 @@
 -- Between two legal pasts what an entry needs stays true in the larger.
 use Rattle.std.proofs.Common.{◌≡◌, ℕ, Bool, true, List, ◌∷◌, sym, ap, subst, ◌∙◌, inl, inr}
-use Rattle.dm_model.specs.declared.entry.Entry.{Entry}
+use Rattle.dm_model.specs.declared.entry.HistoryEntry.{HistoryEntry}
 use Rattle.dm_model.specs.declared.entry.Name.{Name}
 use Rattle.dm_model.specs.declared.state.Joint.{Joint}
 use Rattle.dm_model.specs.Names.{home_of, is_about, made_by, maker_of, names_of}
@@ -17,7 +17,7 @@ use Rattle.dm_history.proofs.PastsAlike.{chains_alike}
 use Rattle.dm_pasts.proofs.DoneGrows.{pasts_follow}
 use Rattle.dm_pasts.proofs.EventsGrow.{event_grows, names_same}
 
-module _ (begun : Begun) (xs ys : List (ℕ × Entry)) (e : Entry) (part : IsPart history xs ys) (legal : Legal history begun xs) (more : Legal history begun ys)
+module _ (begun : Begun) (xs ys : List (ℕ × HistoryEntry)) (e : HistoryEntry) (part : IsPart history xs ys) (legal : Legal history begun xs) (more : Legal history begun ys)
     (chains : (x : Name) → is_about e x ≡ true → chain history x xs ≡ chain history x ys) (opened : Opened begun.opened) (need : Needed begun xs e) where
   abbrev Small : Joint
   Small = state_seen begun.opened xs
@@ -41,7 +41,7 @@ module _ (begun : Begun) (xs ys : List (ℕ × Entry)) (e : Entry) (part : IsPar
   still_fresh : (x : Name) → In x (made_by e.event e.answer) → MadeIn x ys → ⊥
   still_fresh x made by =
       let m = maker_of x in
-      let t : ℕ × Entry → Bool = λ a. is_about a.1 m in
+      let t : ℕ × HistoryEntry → Bool = λ a. is_about a.1 m in
       let same = chains m (makes_told e x made) in
       let in_large = filter_in t by.0 ys by.1 (makes_told by.0.1 x by.2) in
       let in_small = (in_filter t by.0 xs (subst (λ l. In by.0 l) (sym same) in_large)).0 in

@@ -1,7 +1,7 @@
 //! What is proved, as contracts of functions that do nothing.
 ghost use Rattle.std.specs.Prelude.{◌≡◌, ℕ, List, ◌⊎◌, ◌↔◌};
 ghost use Rattle.dm_history.specs.History.{Begun, NeedsGrow, history};
-ghost use Rattle.dm_model.specs.declared.entry.Entry.{Entry};
+ghost use Rattle.dm_model.specs.declared.entry.HistoryEntry.{HistoryEntry};
 ghost use Rattle.dm_spine.specs.Past.{Agree, In, Lawful, Legal, Rises, union};
 
 /// Between two legal pasts what an entry needs stays true in the larger, where the chains of the entry's own names are the same: the
@@ -19,9 +19,9 @@ pub fn history_lawful()
 /// The union of two legal pasts of one beginning that agree is legal, and has what either had (docs/DEFINITIONS.md, "The shared
 /// history"). So what two threads have seen is together a legal run.
 pub fn union_legal()
-    ensures rises { (xs ys : List (ℕ × Entry)) → Rises 0 xs → Rises 0 ys → Rises 0 (union xs ys) }
-    ensures members { (xs ys : List (ℕ × Entry)) → Rises 0 xs → Rises 0 ys → Agree history xs ys
-        → (a : ℕ × Entry) → In a (union xs ys) ↔ (In a xs ⊎ In a ys) }
-    ensures legal { (begun : Begun) (xs ys : List (ℕ × Entry)) → Rises 0 xs → Rises 0 ys → Agree history xs ys
+    ensures rises { (xs ys : List (ℕ × HistoryEntry)) → Rises 0 xs → Rises 0 ys → Rises 0 (union xs ys) }
+    ensures members { (xs ys : List (ℕ × HistoryEntry)) → Rises 0 xs → Rises 0 ys → Agree history xs ys
+        → (a : ℕ × HistoryEntry) → In a (union xs ys) ↔ (In a xs ⊎ In a ys) }
+    ensures legal { (begun : Begun) (xs ys : List (ℕ × HistoryEntry)) → Rises 0 xs → Rises 0 ys → Agree history xs ys
         → Legal history begun xs → Legal history begun ys → Legal history begun (union xs ys) }
 {}

@@ -10,7 +10,7 @@ use Rattle.std.proofs.lemmas.Cmp.{ranked}
 use Rattle.std.proofs.lemmas.List.Elements.{All-nil, All-cons, All-head, All-tail, All-append, All-contains, Contains-append_left, Contains-append_right}
 use Rattle.dm_base.specs.declared.volume.Chunk.{Chunk}
 use Rattle.dm_durable.specs.Group.{is_on}
-use Rattle.dm_durable.specs.Tables.{Numbered}
+use Rattle.dm_durable.specs.Tables.{ByNumber}
 use Rattle.dm_durable.specs.Volumes.{LiveChunk, chunks_on, first_on, further_in_front, least_placed, live_chunk}
 use Rattle.dm_durable.specs.declared.group.BitfileRow.{BitfileRow}
 use Rattle.dm_tables.specs.Rows.{EachRow}
@@ -169,7 +169,7 @@ module _ (vsn : List ℕ) where
       ordered_both (lying e.0 e.1 e.1.chunks) (all_lying es) (ordered_lying e.0 e.1 e.1.chunks each.0) (ordered_all es (second _ _ sorted) each.1)
       (each_lying (λ x. All (IsBefore x) (all_lying es)) e.0 e.1 e.1.chunks (λ c among on. all_before (live_chunk e.0 e.1 c) es (first _ _ sorted)))
 
-module _ (bitfiles : Numbered BitfileRow) (vsn : List ℕ) where
+module _ (bitfiles : ByNumber BitfileRow) (vsn : List ℕ) where
   each_on : (P : LiveChunk → Type 0) → EachRow bitfiles (λ b row. (c : Chunk) → Contains row.chunks c → is_on vsn c ≡ true → P (live_chunk b row c)) → All P (chunks_on bitfiles vsn)
   each_on P each =
       each_of_all vsn P (map.entries bitfiles)

@@ -3,14 +3,14 @@ use Rattle.std.proofs.Common.{◌≡◌, inl, inr, ℕ, List, [], ◌∷◌, Con
 use Rattle.std.specs.List.Sorted.{IsPermutation}
 use Rattle.std.proofs.lemmas.List.Elements.{All-contains}
 use Rattle.std.proofs.lemmas.List.Sorted.{Contains-permutation}
-use Rattle.dm_durable.specs.Tables.{Numbered}
+use Rattle.dm_durable.specs.Tables.{ByNumber}
 use Rattle.dm_durable.specs.declared.group.BitfileRow.{BitfileRow}
 use Rattle.dm_places.specs.Chunks.{EachSpotOn, spot_of}
 use Rattle.dm_places.specs.Order.{IsFirst, IsNotPast}
 use Rattle.dm_places.specs.declared.spot.Spot.{Spot}
 use Rattle.dm_places.proofs.Found.{among_cases, among_none}
 
-module _ (bitfiles : Numbered BitfileRow) (vsn : List ℕ) (spots : List Spot) (queued : EachSpotOn bitfiles vsn (Contains spots)) where
+module _ (bitfiles : ByNumber BitfileRow) (vsn : List ℕ) (spots : List Spot) (queued : EachSpotOn bitfiles vsn (Contains spots)) where
   -- its first spot lies past none of these
   pub first_not_past : (x : Spot) → IsFirst spots x → EachSpotOn bitfiles vsn (IsNotPast x)
   first_not_past x first = λ b row is c among on. All-contains (IsNotPast x) spots (spot_of b c) first.least (queued b row is c among on)

@@ -2,7 +2,7 @@
 use Rattle.std.specs.Prelude.{◌≡◌, ℕ, ◌<◌, true, List, [], ◌∷◌, All, Contains}
 use Rattle.dm_base.specs.declared.volume.Chunk.{Chunk}
 use Rattle.dm_durable.specs.Group.{is_on}
-use Rattle.dm_durable.specs.Tables.{Numbered}
+use Rattle.dm_durable.specs.Tables.{ByNumber}
 use Rattle.dm_durable.specs.declared.group.BitfileRow.{BitfileRow}
 use Rattle.dm_tables.specs.Rows.{EachRow}
 use Rattle.dm_places.specs.declared.spot.Spot.{Spot}
@@ -17,5 +17,5 @@ Ascends [] = Unit {0}
 Ascends (c ∷ cs) = All (λ d. c.offset < d.offset) cs × Ascends cs
 
 -- P holds of the spot of each chunk on the volume
-abbrev pub EachSpotOn : Numbered BitfileRow → List ℕ → (Spot → Type 0) → Type 0
+abbrev pub EachSpotOn : ByNumber BitfileRow → List ℕ → (Spot → Type 0) → Type 0
 EachSpotOn bitfiles vsn P = EachRow bitfiles (λ b row. (c : Chunk) → Contains row.chunks c → is_on vsn c ≡ true → P (spot_of b c))

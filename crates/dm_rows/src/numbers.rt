@@ -27,12 +27,12 @@ impl<V> Model for NumberRows<V> {
     ghost use Rattle.std.specs.FinMap.{is_sorted};
     ghost use Rattle.std.specs.Ordering.{nat_cmp};
     ghost use Rattle.std.specs.Coded.{coded_ℕ};
-    ghost use Rattle.dm_rows.specs.Rows.{Kept, kept_code};
+    ghost use Rattle.dm_rows.specs.Rows.{TableContents, contents_code};
     ghost use Rattle.dm_rows.specs.Places.{row_of};
 
-    ghost Value = { Kept nat_cmp V };
+    ghost Value = { TableContents nat_cmp V };
 
-    ghost coded = { kept_code coded_ℕ V.code };
+    ghost coded = { contents_code coded_ℕ V.code };
 
     ghost view = { λ a. record { rows = map.from_entries (map_list row_of a.rows.items); spare = a.rows.cap - a.rows.len } };
 

@@ -30,12 +30,12 @@ impl<K: Text, V> Model for TextRows<K, V> {
     ghost use Rattle.std.specs.Ordering.{nat_cmp};
     ghost use Rattle.std.specs.Cmp.Lexicographic.{slice_cmp};
     ghost use Rattle.std.specs.Coded.{coded_ℕ, coded_list};
-    ghost use Rattle.dm_rows.specs.Rows.{Kept, kept_code};
+    ghost use Rattle.dm_rows.specs.Rows.{TableContents, contents_code};
     ghost use Rattle.dm_rows.specs.Places.{text_row_of};
 
-    ghost Value = { Kept (slice_cmp nat_cmp) V };
+    ghost Value = { TableContents (slice_cmp nat_cmp) V };
 
-    ghost coded = { kept_code (coded_list coded_ℕ) V.code };
+    ghost coded = { contents_code (coded_list coded_ℕ) V.code };
 
     ghost view = { λ a. record { rows = map.from_entries (map_list (text_row_of K.text) a.rows.items); spare = a.rows.cap - a.rows.len } };
 

@@ -6,7 +6,7 @@ use Rattle.std.proofs.lemmas.List.{length-take-le, get_or-take, get_or-drop}
 use Rattle.std.specs.Cmp.{nat_cmp_total}
 use Rattle.std.specs.Ordering.{nat_cmp}
 use Rattle.std.specs.FinMap as map
-use Rattle.dm_rules.specs.Known.{Known, within, known_with_write, known_without_range, may_be, agrees_with_known, byte_and, known_bytes, Holds}
+use Rattle.dm_rules.specs.Known.{Known, within, known_with_write, known_without_range, may_be, agrees_with_known, byte_and, known_bytes, HasKnown}
 
 -- one byte more is known
 insert_here : (m : Known) (k v : ℕ) → map.get (map.insert m k v) k ≡ Some v
@@ -113,7 +113,7 @@ pub record KeepsOutside (place n : ℕ) (old new : List ℕ) : Type 0 where
   pub byte : (p : ℕ) → p < length old → (p < place) ⊎ (place + n ≤ p) → slice_index new p ≡ slice_index old p
 
 -- a content whose range was changed in whatever way holds what was known elsewhere
-pub holds-forgotten : (place n : ℕ) (known : Known) (old new : List ℕ) → KeepsOutside place n old new → Holds known old → Holds (known_without_range place n known) new
+pub holds-forgotten : (place n : ℕ) (known : Known) (old new : List ℕ) → KeepsOutside place n old new → HasKnown known old → HasKnown (known_without_range place n known) new
 holds-forgotten place n known old new same holds p b is = elim (lies place n p) [
   | inside from below ↦ absurd (none_some (sym (get-forgotten_in place n known p from below) ∙ is))
   | outside out ↦
@@ -123,7 +123,7 @@ holds-forgotten place n known old new same holds p b is = elim (lies place n p) 
 
 -- a content with these bytes in the range holds them too
 pub holds-written : (place : ℕ) (bytes : List ℕ) (known : Known) (old new : List ℕ) → KeepsOutside place (length bytes) old new
-    → ((i : ℕ) → i < length bytes → (place + i < length new) × (slice_index new (place + i) ≡ slice_index bytes i)) → Holds known old → Holds (known_with_write place bytes known) new
+    → ((i : ℕ) → i < length bytes → (place + i < length new) × (slice_index new (place + i) ≡ slice_index bytes i)) → HasKnown known old → HasKnown (known_with_write place bytes known) new
 holds-written place bytes known old new same there holds p b is = elim (known_after_write place bytes known p b is) [
   | inl here ↦
       let i = here.0 in
@@ -133,7 +133,7 @@ holds-written place bytes known old new same there holds p b is = elim (known_af
 ]
 
 -- to know less
-pub holds-forgotten_same : (place n : ℕ) (known : Known) (content : List ℕ) → Holds known content → Holds (known_without_range place n known) content
+pub holds-forgotten_same : (place n : ℕ) (known : Known) (content : List ℕ) → HasKnown known content → HasKnown (known_without_range place n known) content
 holds-forgotten_same place n known content =
     holds-forgotten place n known content content (record { inside = λ p below. below; byte = λ p below out. refl })
 
@@ -163,7 +163,7 @@ each-agrees known place (a ∷ bs) agree (suc i) b below is =
     each-agrees known (place + 1) bs (second_true _ _ agree) i b (omega (arith, below)) (ap (λ (p : ℕ). map.get known p) next ∙ is)
 
 -- bytes that stand in a content which holds what is known agree with it
-pub holds-agrees : (known : Known) (content : List ℕ) (place : ℕ) (bytes : List ℕ) → Holds known content
+pub holds-agrees : (known : Known) (content : List ℕ) (place : ℕ) (bytes : List ℕ) → HasKnown known content
     → ((i : ℕ) → i < length bytes → slice_index bytes i ≡ slice_index content (place + i)) → IsTrue (agrees_with_known known place bytes)
 holds-agrees known content place bytes holds read = agrees-each known place bytes (λ i b below is. read i below ∙ (holds (place + i) b is).1)
 
@@ -176,7 +176,7 @@ agrees-known_bytes known place (b ∷ bs) was agree is =
     (λ rest there. agrees-known_bytes known (place + 1) bs rest (second_true _ _ agree) there) is
 
 -- nothing known is held by every content
-pub holds-empty : (content : List ℕ) → Holds map.empty content
+pub holds-empty : (content : List ℕ) → HasKnown map.empty content
 holds-empty content p b is = absurd (none_some (sym (map.get-empty nat_cmp p) ∙ is))
 
 -- the bytes of a range of which each is known

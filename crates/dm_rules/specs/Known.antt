@@ -41,5 +41,5 @@ known_bytes known place zero = Some []
 known_bytes known place (suc n) = byte_and (map.get known place) (known_bytes known (place + 1) n)
 
 -- the content of a volume's file has each known byte at its place, before its end
-abbrev pub Holds : Known → List ℕ → Type 0
-Holds known content = (place b : ℕ) → map.get known place ≡ Some b → (place < length content) × (slice_index content place ≡ b)
+abbrev pub HasKnown : Known → List ℕ → Type 0
+HasKnown known content = (place b : ℕ) → map.get known place ≡ Some b → (place < length content) × (slice_index content place ≡ b)

@@ -7,7 +7,7 @@ use Rattle.dm_rules.specs.Version.{has_sum, chunk_header}
 
 -- some bytes of a bitfile: whose they are, its length, their place in it, and the sum that their header ends with, if
 -- it has one
-pub record Chunk : Type 0 where
+pub record SpelledChunk : Type 0 where
   pub bfid : ℕ
   pub total : ℕ
   pub offset : ℕ
@@ -34,7 +34,7 @@ sum_text None = []
 sum_text (Some sum) = sum
 
 -- a chunk, which is its header and its bytes
-abbrev pub chunk_text : Chunk → List ℕ
+abbrev pub chunk_text : SpelledChunk → List ℕ
 chunk_text c = chunk_front c.bfid c.offset (length c.bytes) c.total ++ sum_text c.sum ++ c.bytes
 
 -- the header of a zone of so many chunks, with the length of the whole zone
@@ -43,7 +43,7 @@ zone_front epoch count whole =
     codes "ZONE" ++ to_be_bytes w32 count ++ to_be_bytes w64 epoch ++ to_be_bytes w64 whole ++ replicate 8 0
 
 -- a zone, which is its header and its chunks
-abbrev pub zone : ℕ → List Chunk → List ℕ
+abbrev pub zone : ℕ → List SpelledChunk → List ℕ
 zone epoch chunks =
     zone_front epoch (length chunks) (zone_header + length (flat_map chunk_text chunks)) ++ flat_map chunk_text chunks
 
@@ -52,7 +52,7 @@ abbrev pub chunk_count : ℕ → ℕ → ℕ
 chunk_count chunk n = div_ceil n chunk
 
 -- the bytes, which stand at `offset`, cut into `count` chunks of `chunk` bytes, the last of them what is left
-unfoldable pub chunk_split_into : ℕ → ℕ → ℕ → ℕ → ℕ → List ℕ → ℕ → List Chunk
+unfoldable pub chunk_split_into : ℕ → ℕ → ℕ → ℕ → ℕ → List ℕ → ℕ → List SpelledChunk
 chunk_split_into version zero bfid total offset bytes chunk = []
 chunk_split_into version (suc count) bfid total offset bytes chunk =
     let front = take chunk bytes in
@@ -60,7 +60,7 @@ chunk_split_into version (suc count) bfid total offset bytes chunk =
     ∷ chunk_split_into version count bfid total (offset + length front) (drop chunk bytes) chunk
 
 -- the bytes cut into chunks for a volume of this version
-abbrev pub chunk_split : ℕ → ℕ → ℕ → ℕ → List ℕ → ℕ → List Chunk
+abbrev pub chunk_split : ℕ → ℕ → ℕ → ℕ → List ℕ → ℕ → List SpelledChunk
 chunk_split version bfid total offset bytes chunk = chunk_split_into version (chunk_count chunk (length bytes)) bfid total offset bytes chunk
 
 -- the zone of the bytes that stand at `offset` of a bitfile, for a volume of this version and epoch

@@ -6,7 +6,7 @@ use Rattle.dm_base.specs.declared.identifier.GroupId.{GroupId}
 use Rattle.dm_tables.specs.Rows.{EachRow}
 use Rattle.dm_tables.proofs.Adjusted.{each-map}
 use Rattle.dm_tables.proofs.Orders.{numbers}
-use Rattle.dm_durable.specs.Tables.{Numbered}
+use Rattle.dm_durable.specs.Tables.{ByNumber}
 use Rattle.dm_model.specs.declared.answer.Answer.{Answer}
 use Rattle.dm_model.specs.declared.call.Component.{Component}
 use Rattle.dm_model.specs.declared.call.Component.TheVariants as component
@@ -29,10 +29,10 @@ use Rattle.dm_runs.proofs.ImagesStay.{SideImaged, ending_fits, failed_mark_fits,
 use Rattle.dm_runs.proofs.Runs.{EachKeeps, along_all, run_keeps}
 
 -- the images of groups that are changed
-abbrev Each : Numbered Side → Type 0
+abbrev Each : ByNumber Side → Type 0
 Each sides = EachRow sides (λ g s. SideImaged s)
 
-at_groups : (f : Side → Side) (gs : List GroupId) (sides : Numbered Side) → ((s : Side) → SideImaged s → SideImaged (f s)) → Each sides
+at_groups : (f : Side → Side) (gs : List GroupId) (sides : ByNumber Side) → ((s : Side) → SideImaged s → SideImaged (f s)) → Each sides
     → Each (at_each f gs sides)
 at_groups f gs sides keeps each = each_at_each (λ g s. SideImaged s) f gs sides (λ g s fits. keeps s fits) each
 

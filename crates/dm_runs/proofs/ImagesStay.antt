@@ -8,7 +8,7 @@ use Rattle.dm_tables.proofs.Orders.{paths, same_or}
 use Rattle.dm_durable.specs.declared.group.GroupStep.{GroupStep}
 use Rattle.dm_durable.specs.declared.group.GroupStep.TheVariants as step
 use Rattle.dm_durable.specs.declared.group.VolumeRow.{VolumeRow}
-use Rattle.dm_durable.specs.Tables.{Named}
+use Rattle.dm_durable.specs.Tables.{ByName}
 use Rattle.dm_model.specs.declared.plan.Ending.{Ending}
 use Rattle.dm_model.specs.declared.plan.Ending.TheVariants as ending
 use Rattle.dm_model.specs.declared.plan.Mark.{Mark}
@@ -27,7 +27,7 @@ use Rattle.dm_invariant.specs.Volumes.{ImagesFit}
 -- ---- images
 
 -- an image that changes and keeps its size
-changed_fits : (conf : GroupConf) (images : Named Image) (vsn : List ℕ) (f : Image → Image) → ((i : Image) → (f i).size ≡ i.size)
+changed_fits : (conf : GroupConf) (images : ByName Image) (vsn : List ℕ) (f : Image → Image) → ((i : Image) → (f i).size ≡ i.size)
     → ImagesFit conf images → ImagesFit conf (adjust images vsn f)
 changed_fits conf images vsn f same fits q listed =
     let old = fits q listed in
@@ -40,12 +40,12 @@ changed_fits conf images vsn f same fits q listed =
       | inr differ ↦ record { image = old.image; is = adjusted-beside paths images vsn f q differ ∙ old.is; sized = old.sized }
     ]
 
-forgotten_if : (v : Bool) (conf : GroupConf) (images : Named Image) (vsn : List ℕ) → ImagesFit conf images
+forgotten_if : (v : Bool) (conf : GroupConf) (images : ByName Image) (vsn : List ℕ) → ImagesFit conf images
     → ImagesFit conf (cond v (adjust images vsn without_known) images)
 forgotten_if true conf images vsn fits = changed_fits conf images vsn without_known (λ i. refl) fits
 forgotten_if false conf images vsn fits = fits
 
-relabelled_fits : (conf : GroupConf) (faithful : List ℕ) (version : ℕ) (vsn : List ℕ) (o : Option VolumeRow) (images : Named Image)
+relabelled_fits : (conf : GroupConf) (faithful : List ℕ) (version : ℕ) (vsn : List ℕ) (o : Option VolumeRow) (images : ByName Image)
     → ImagesFit conf images → ImagesFit conf (images_relabelled faithful version vsn o images)
 relabelled_fits conf faithful version vsn None images fits = fits
 relabelled_fits conf faithful version vsn (Some v) images fits = forgotten_if _ conf images vsn fits

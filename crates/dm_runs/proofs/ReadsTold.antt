@@ -5,7 +5,7 @@ use Rattle.std.proofs.lemmas.Bool.{and_from, eq-eqb}
 use Rattle.std.proofs.lemmas.List.Elements.{Contains-append_cases, Contains-append_left, Contains-append_right}
 use Rattle.dm_base.specs.declared.identifier.Bfid.{Bfid}
 use Rattle.dm_base.specs.declared.volume.Chunk.{Chunk}
-use Rattle.dm_durable.specs.Tables.{Numbered}
+use Rattle.dm_durable.specs.Tables.{ByNumber}
 use Rattle.dm_model.specs.declared.call.VolumeCall.TheVariants as volume_call
 use Rattle.dm_model.specs.declared.state.Joint.{Joint}
 use Rattle.dm_model.specs.declared.state.Origin.{Origin}
@@ -62,7 +62,7 @@ last_hashes j (d ∷ ds) k e run x has =
 -- ---- one read
 
 -- the part of the chunk that a mount is for
-part_for : (lists : List (List ℕ)) (contents : Numbered (List ℕ)) (b : Bfid) (c : Chunk) (o : Origin) → IsForChunk b c o → OriginIn lists contents o
+part_for : (lists : List (List ℕ)) (contents : ByNumber (List ℕ)) (b : Bfid) (c : Chunk) (o : Origin) → IsForChunk b c o → OriginIn lists contents o
     → PartIn lists contents b.0 c
 part_for lists contents b c (origin.New listed format) is part = absurd is
 part_for lists contents b c (origin.Piece d index p chunk) is part = absurd is

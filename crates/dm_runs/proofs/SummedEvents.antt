@@ -17,7 +17,7 @@ use Rattle.dm_durable.specs.declared.daemon.DumpInode.{DumpInode}
 use Rattle.dm_durable.specs.declared.daemon.Entry.{Entry}
 use Rattle.dm_durable.specs.declared.group.GroupRecord.{GroupRecord}
 use Rattle.dm_durable.specs.DaemonConditions.{MayFollow, MayStep}
-use Rattle.dm_durable.specs.Tables.{Numbered}
+use Rattle.dm_durable.specs.Tables.{ByNumber}
 use Rattle.dm_model.specs.declared.answer.Answer.{Answer}
 use Rattle.dm_model.specs.declared.call.Call.{Call}
 use Rattle.dm_model.specs.declared.call.Call.TheVariants as call
@@ -75,11 +75,11 @@ HashesIn lists j e = (x : List ℕ) → Contains (hashed_by_event j e) x → Con
 
 -- ---- the sides after an event, over the contents before it
 
-module _ (lists : List (List ℕ)) (contents : Numbered (List ℕ)) where
-  abbrev Each : Numbered Side → Type 0
+module _ (lists : List (List ℕ)) (contents : ByNumber (List ℕ)) where
+  abbrev Each : ByNumber Side → Type 0
   Each sides = EachRow sides (λ g s. SideSummed lists contents s)
 
-  at_groups : (f : Side → Side) (gs : List GroupId) (sides : Numbered Side)
+  at_groups : (f : Side → Side) (gs : List GroupId) (sides : ByNumber Side)
       → ((s : Side) → SideSummed lists contents s → SideSummed lists contents (f s)) → Each sides → Each (at_each f gs sides)
   at_groups f gs sides keeps each = each_at_each (λ g s. SideSummed lists contents s) f gs sides (λ g s k. keeps s k) each
 
@@ -110,7 +110,7 @@ module _ (lists : List (List ℕ)) (contents : Numbered (List ℕ)) where
 
 -- ---- contents grow
 
-grown : (contents : Numbered (List ℕ)) (b : ℕ) (f : Option File) → map.get contents b ≡ None
+grown : (contents : ByNumber (List ℕ)) (b : ℕ) (f : Option File) → map.get contents b ≡ None
     → EachRow contents (λ q bytes. map.get (contents_with b f contents) q ≡ Some bytes)
 grown contents b None free = λ q bytes at. at
 grown contents b (Some f) free = λ q bytes at. beside_free numbers contents b q _ bytes free at
@@ -148,7 +148,7 @@ payload_grows j kept (Some (payload.Daemon r)) follow = record_grows j kept r.ti
 payload_grows j kept (Some (payload.Group g r)) follow = λ q bytes at. at
 
 module _ (lists : List (List ℕ)) (j : Joint) (kept : InvariantHolds j) (summed : Summed lists j) where
-  abbrev before : Numbered (List ℕ)
+  abbrev before : ByNumber (List ℕ)
   before = j.history.contents
 
   called_in : (w : ℕ) (p : Prepared) → PayloadIn lists before p.payload → OpeningIn lists before p.opens → PayloadFollows j p.payload
@@ -181,7 +181,7 @@ MakesRequests (opening.Mount g m vsn epoch made) = ⊥
 MakesRequests (opening.Move g job x source_epoch target_epoch) = ⊥
 MakesRequests (opening.Reuse g m epoch reusing reading) = ⊥
 
-requests_in : (lists : List (List ℕ)) (contents : Numbered (List ℕ)) (o : Opening) → MakesRequests o → OpeningIn lists contents o
+requests_in : (lists : List (List ℕ)) (contents : ByNumber (List ℕ)) (o : Opening) → MakesRequests o → OpeningIn lists contents o
 requests_in lists contents opening.Nothing makes = tt
 requests_in lists contents (opening.Put k r len groups) makes = tt
 requests_in lists contents (opening.Recall k r recall) makes = tt
@@ -276,13 +276,13 @@ module _ (d : Daemon) where
   daemon_makes daemon_call.List = tt
 
 -- a plan that makes requests alone still does with the tests of its refusals made
-requests_prepared : (lists : List (List ℕ)) (contents : Numbered (List ℕ)) (p : Plan) → MakesRequests p.opens → OpeningIn lists contents (prepared_plan p).opens
+requests_prepared : (lists : List (List ℕ)) (contents : ByNumber (List ℕ)) (p : Plan) → MakesRequests p.opens → OpeningIn lists contents (prepared_plan p).opens
 requests_prepared lists contents p makes = opens_if lists contents (refusal_of p) p.opens (requests_in lists contents p.opens makes)
 
 -- ---- events
 
 -- a payload of the daemon has no chunk
-lands_in : (lists : List (List ℕ)) (contents : Numbered (List ℕ)) (i : Joint) (o : Option Payload) → PayloadLands i o → PayloadIn lists contents o
+lands_in : (lists : List (List ℕ)) (contents : ByNumber (List ℕ)) (i : Joint) (o : Option Payload) → PayloadLands i o → PayloadIn lists contents o
 lands_in lists contents i None lands = tt
 lands_in lists contents i (Some (payload.Daemon r)) lands = tt
 lands_in lists contents i (Some (payload.Group g r)) lands = absurd lands

@@ -15,7 +15,7 @@ use Rattle.dm_tables.proofs.Entries.{entries-found}
 use Rattle.dm_tables.proofs.Orders.{numbers}
 use Rattle.dm_durable.specs.declared.group.BitfileRow.{BitfileRow}
 use Rattle.dm_durable.specs.Group.{is_on}
-use Rattle.dm_durable.specs.Tables.{Numbered}
+use Rattle.dm_durable.specs.Tables.{ByNumber}
 use Rattle.dm_durable.specs.Volumes.{LiveChunk, chunks_on, first_on, further_in_front, least_placed, live_chunk}
 use Rattle.dm_model.specs.declared.state.MountState.{MountState}
 use Rattle.dm_model.specs.declared.state.Moving.{Moving}
@@ -122,7 +122,7 @@ was_read x sum o p s t source target e =
 -- ---- the chunk that a merge moves next
 
 -- it is one of a bitfile
-pub record LiveIn (bitfiles : Numbered BitfileRow) (l : LiveChunk) : Type 0 where
+pub record LiveIn (bitfiles : ByNumber BitfileRow) (l : LiveChunk) : Type 0 where
   pub row : BitfileRow
   pub is : map.get bitfiles l.bfid.0 ≡ Some row
   pub among : IsAmong l.chunk row.chunks
@@ -145,7 +145,7 @@ least_among : (xs : List LiveChunk) (l : LiveChunk) → least_placed xs ≡ Some
 least_among [] l is = cc
 least_among (x ∷ xs) l is = least_front x xs l (least_placed xs) (λ y at. least_among xs y at) is
 
-pub live_in : (bitfiles : Numbered BitfileRow) (vsn : List ℕ) (l : LiveChunk) → first_on bitfiles vsn ≡ Some l → LiveIn bitfiles l
+pub live_in : (bitfiles : ByNumber BitfileRow) (vsn : List ℕ) (l : LiveChunk) → first_on bitfiles vsn ≡ Some l → LiveIn bitfiles l
 live_in bitfiles vsn l is =
     let e = flat_among _ l (map.entries bitfiles) (least_among (chunks_on bitfiles vsn) l is) in
     let there = each_among (λ e. map.get bitfiles e.0 ≡ Some e.1) e.0 (map.entries bitfiles) (entries-found numbers bitfiles) e.1 in

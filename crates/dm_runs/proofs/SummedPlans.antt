@@ -12,7 +12,7 @@ use Rattle.dm_rules.specs.Version.{has_sum}
 use Rattle.dm_durable.specs.declared.group.BitfileRow.{BitfileRow}
 use Rattle.dm_durable.specs.declared.group.VolumeRow.{VolumeRow}
 use Rattle.dm_durable.specs.Group.{chunk_at}
-use Rattle.dm_durable.specs.Tables.{Numbered}
+use Rattle.dm_durable.specs.Tables.{ByNumber}
 use Rattle.dm_durable.specs.Volumes.{LiveChunk, destination_in, first_on, is_freeable_in, reusable_in}
 use Rattle.dm_model.specs.declared.answer.Answer.{Answer}
 use Rattle.dm_model.specs.declared.call.GroupCall.{GroupCall}
@@ -41,43 +41,43 @@ use Rattle.dm_runs.proofs.SummedParts.{live_in, summed_part, was_read}
 use Rattle.dm_runs.proofs.SummedSides.{OpeningIn, PartIn, PayloadIn, SideSummed}
 
 -- what a plan journals and makes
-pub record PlanIn (lists : List (List ℕ)) (contents : Numbered (List ℕ)) (p : Plan) : Type 0 where
+pub record PlanIn (lists : List (List ℕ)) (contents : ByNumber (List ℕ)) (p : Plan) : Type 0 where
   pub payload : PayloadIn lists contents p.payload
   pub opens : OpeningIn lists contents p.opens
 
-payload_if : (lists : List (List ℕ)) (contents : Numbered (List ℕ)) (o : Option Answer) (p : Option Payload) → PayloadIn lists contents p
+payload_if : (lists : List (List ℕ)) (contents : ByNumber (List ℕ)) (o : Option Answer) (p : Option Payload) → PayloadIn lists contents p
     → PayloadIn lists contents (if_accepted o None p)
 payload_if lists contents None p part = part
 payload_if lists contents (Some refusal) p part = tt
 
-pub opens_if : (lists : List (List ℕ)) (contents : Numbered (List ℕ)) (o : Option Answer) (x : Opening) → OpeningIn lists contents x
+pub opens_if : (lists : List (List ℕ)) (contents : ByNumber (List ℕ)) (o : Option Answer) (x : Opening) → OpeningIn lists contents x
     → OpeningIn lists contents (if_accepted o opening.Nothing x)
 opens_if lists contents None x part = part
 opens_if lists contents (Some refusal) x part = tt
 
 -- with the tests of its refusals made
-pub payload_prepared : (lists : List (List ℕ)) (contents : Numbered (List ℕ)) (p : Plan) → PlanIn lists contents p
+pub payload_prepared : (lists : List (List ℕ)) (contents : ByNumber (List ℕ)) (p : Plan) → PlanIn lists contents p
     → PayloadIn lists contents (prepared_plan p).payload
 payload_prepared lists contents p i = payload_if lists contents (refusal_of p) p.payload i.payload
 
-pub opens_prepared : (lists : List (List ℕ)) (contents : Numbered (List ℕ)) (p : Plan) → PlanIn lists contents p
+pub opens_prepared : (lists : List (List ℕ)) (contents : ByNumber (List ℕ)) (p : Plan) → PlanIn lists contents p
     → OpeningIn lists contents (prepared_plan p).opens
 opens_prepared lists contents p i = opens_if lists contents (refusal_of p) p.opens i.opens
 
 -- bytes that were read are among what a move hashes
-read_hashed : (x : Moving) (mounts : Numbered MountState) (source : MountState) (bytes : List ℕ) → map.get mounts x.source ≡ Some source
+read_hashed : (x : Moving) (mounts : ByNumber MountState) (source : MountState) (bytes : List ℕ) → map.get mounts x.source ≡ Some source
     → source.read ≡ Some bytes → has_sum x.version ≡ true → Contains (hashed_by_move mounts (Some x)) bytes
 read_hashed x mounts source bytes at is has =
     contains_if (has_sum x.version) (bytes_read (map.get mounts x.source)) bytes has
     (subst (λ o. Contains (bytes_read o) bytes) (sym at)
     (subst (λ o. Contains (option_to_list o) bytes) (sym is) (contains_first bytes [])))
 
-read_of : (contents : Numbered (List ℕ)) (b : ℕ) (c : Chunk) (o : Option (List ℕ)) (bytes : List ℕ) → o ≡ Some bytes → ReadRight contents b c o
+read_of : (contents : ByNumber (List ℕ)) (b : ℕ) (c : Chunk) (o : Option (List ℕ)) (bytes : List ℕ) → o ≡ Some bytes → ReadRight contents b c o
     → ReadPart contents b c bytes
 read_of contents b c o bytes is right = subst (ReadRight contents b c) is right
 
 module _ (lists : List (List ℕ)) (j : Joint) (g : GroupId) (s : Side) (own : SideOf j g.0 s) (summed : SideSummed lists j.history.contents s) where
-  abbrev contents : Numbered (List ℕ)
+  abbrev contents : ByNumber (List ℕ)
   contents = j.history.contents
 
   abbrev In : Plan → Type 0

@@ -15,7 +15,7 @@ use Rattle.dm_durable.specs.declared.group.GroupStep.{GroupStep}
 use Rattle.dm_durable.specs.declared.group.GroupStep.TheVariants as step
 use Rattle.dm_durable.specs.declared.group.GroupTables.{GroupTables}
 use Rattle.dm_durable.specs.Group.{chunk_or_moved, group_after_step, with_chunk}
-use Rattle.dm_durable.specs.Tables.{Numbered}
+use Rattle.dm_durable.specs.Tables.{ByNumber}
 use Rattle.dm_model.specs.declared.plan.Ending.{Ending}
 use Rattle.dm_model.specs.declared.plan.Ending.TheVariants as ending
 use Rattle.dm_model.specs.declared.plan.Mark.{Mark}
@@ -34,16 +34,16 @@ use Rattle.dm_invariant.specs.Among.{IsAmong}
 use Rattle.dm_invariant.proofs.Lists.{mapped_among}
 
 -- the part of its content that a chunk is
-pub record PartAmong (lists : List (List ℕ)) (contents : Numbered (List ℕ)) (b : ℕ) (c : Chunk) : Type 0 where
+pub record PartAmong (lists : List (List ℕ)) (contents : ByNumber (List ℕ)) (b : ℕ) (c : Chunk) : Type 0 where
   pub bytes : List ℕ
   pub content : map.get contents b ≡ Some bytes
   pub among : Contains lists (part_of bytes c.offset c.len)
 
 -- it is among these where the chunk has a sum
-abbrev pub PartIn : List (List ℕ) → Numbered (List ℕ) → ℕ → Chunk → Type 0
+abbrev pub PartIn : List (List ℕ) → ByNumber (List ℕ) → ℕ → Chunk → Type 0
 PartIn lists contents b c = IsSome c.sum → PartAmong lists contents b c
 
-abbrev pub OriginIn : List (List ℕ) → Numbered (List ℕ) → Origin → Type 0
+abbrev pub OriginIn : List (List ℕ) → ByNumber (List ℕ) → Origin → Type 0
 OriginIn lists contents (origin.New listed format) = Unit {0}
 OriginIn lists contents (origin.Piece b index p chunk) = Unit {0}
 OriginIn lists contents (origin.Chunk b c) = PartIn lists contents b.0 c
@@ -51,7 +51,7 @@ OriginIn lists contents (origin.Source job b c) = PartIn lists contents b.0 c
 OriginIn lists contents (origin.Target job b total c version) = Unit {0}
 OriginIn lists contents (origin.Reuse next_epoch version reading) = Unit {0}
 
-abbrev pub StepIn : List (List ℕ) → Numbered (List ℕ) → GroupStep → Type 0
+abbrev pub StepIn : List (List ℕ) → ByNumber (List ℕ) → GroupStep → Type 0
 StepIn lists contents (step.Volume vsn slot version size) = Unit {0}
 StepIn lists contents (step.Commit b len chunks) = (c : Chunk) → IsAmong c chunks → PartIn lists contents b.0 c
 StepIn lists contents (step.Delete b) = Unit {0}
@@ -59,16 +59,16 @@ StepIn lists contents (step.Move b from to) = PartIn lists contents b.0 to
 StepIn lists contents (step.Free vsn) = Unit {0}
 StepIn lists contents (step.Reuse vsn epoch version) = Unit {0}
 
-abbrev pub DoubtIn : List (List ℕ) → Numbered (List ℕ) → Option GroupRecord → Type 0
+abbrev pub DoubtIn : List (List ℕ) → ByNumber (List ℕ) → Option GroupRecord → Type 0
 DoubtIn lists contents None = Unit {0}
 DoubtIn lists contents (Some r) = StepIn lists contents r.step
 
-abbrev pub PayloadIn : List (List ℕ) → Numbered (List ℕ) → Option Payload → Type 0
+abbrev pub PayloadIn : List (List ℕ) → ByNumber (List ℕ) → Option Payload → Type 0
 PayloadIn lists contents None = Unit {0}
 PayloadIn lists contents (Some (payload.Daemon r)) = Unit {0}
 PayloadIn lists contents (Some (payload.Group g r)) = StepIn lists contents r.step
 
-abbrev pub OpeningIn : List (List ℕ) → Numbered (List ℕ) → Opening → Type 0
+abbrev pub OpeningIn : List (List ℕ) → ByNumber (List ℕ) → Opening → Type 0
 OpeningIn lists contents opening.Nothing = Unit {0}
 OpeningIn lists contents (opening.Put k r len groups) = Unit {0}
 OpeningIn lists contents (opening.Recall k r recall) = Unit {0}
@@ -78,17 +78,17 @@ OpeningIn lists contents (opening.Move g job x source_epoch target_epoch) = Part
 OpeningIn lists contents (opening.Reuse g m epoch reusing reading) = Unit {0}
 
 -- a row of a bitfile
-abbrev pub RowIn : List (List ℕ) → Numbered (List ℕ) → ℕ → BitfileRow → Type 0
+abbrev pub RowIn : List (List ℕ) → ByNumber (List ℕ) → ℕ → BitfileRow → Type 0
 RowIn lists contents b row = (c : Chunk) → IsAmong c row.chunks → PartIn lists contents b c
 
-pub record SideSummed (lists : List (List ℕ)) (contents : Numbered (List ℕ)) (s : Side) : Type 0 where
+pub record SideSummed (lists : List (List ℕ)) (contents : ByNumber (List ℕ)) (s : Side) : Type 0 where
   pub rows : EachRow s.group.tables.bitfiles (RowIn lists contents)
   pub mounts : EachRow s.mounts (λ m x. OriginIn lists contents x.origin)
   pub doubt : DoubtIn lists contents s.group.doubt
 
 -- ---- contents that grow
 
-module _ (lists : List (List ℕ)) (contents after : Numbered (List ℕ)) (more : EachRow contents (λ b bytes. map.get after b ≡ Some bytes)) where
+module _ (lists : List (List ℕ)) (contents after : ByNumber (List ℕ)) (more : EachRow contents (λ b bytes. map.get after b ≡ Some bytes)) where
   part_onward : (b : ℕ) (c : Chunk) → PartIn lists contents b c → PartIn lists after b c
   part_onward b c part has = let p = part has in record { bytes = p.bytes; content = more b p.bytes p.content; among = p.among }
 
@@ -121,7 +121,7 @@ module _ (lists : List (List ℕ)) (contents after : Numbered (List ℕ)) (more 
 
 -- ---- more lists
 
-module _ (lists more : List (List ℕ)) (within : (x : List ℕ) → Contains lists x → Contains more x) (contents : Numbered (List ℕ)) where
+module _ (lists more : List (List ℕ)) (within : (x : List ℕ) → Contains lists x → Contains more x) (contents : ByNumber (List ℕ)) where
   part_wider : (b : ℕ) (c : Chunk) → PartIn lists contents b c → PartIn more contents b c
   part_wider b c part has = let p = part has in record { bytes = p.bytes; content = p.content; among = within _ p.among }
 
@@ -154,7 +154,7 @@ module _ (lists more : List (List ℕ)) (within : (x : List ℕ) → Contains li
 
 -- ---- parts of a plan
 
-module _ (lists : List (List ℕ)) (contents : Numbered (List ℕ)) where
+module _ (lists : List (List ℕ)) (contents : ByNumber (List ℕ)) where
   abbrev In : Side → Type 0
   In s = SideSummed lists contents s
 

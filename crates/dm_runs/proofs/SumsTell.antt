@@ -12,7 +12,7 @@ use Rattle.dm_tables.specs.Rows.{EachRow}
 use Rattle.dm_tables.proofs.Entries.{each-entries}
 use Rattle.dm_tables.proofs.Orders.{KeyOrder, numbers}
 use Rattle.dm_durable.specs.declared.group.BitfileRow.{BitfileRow}
-use Rattle.dm_durable.specs.Tables.{Numbered}
+use Rattle.dm_durable.specs.Tables.{ByNumber}
 use Rattle.dm_model.specs.declared.call.Call.TheVariants as call
 use Rattle.dm_model.specs.declared.call.Event.{Event}
 use Rattle.dm_model.specs.declared.call.Event.TheVariants as event
@@ -62,7 +62,7 @@ tell_one p x y one two long same = sym (one_is p x one) ∙ one_is p y two
 -- ---- one read
 
 -- a read of the chunk that a mount was made for
-tell_chunk : (lists : List (List ℕ)) (contents : Numbered (List ℕ)) (b : ℕ) (c : Chunk) (bytes : List ℕ) (v : Bool)
+tell_chunk : (lists : List (List ℕ)) (contents : ByNumber (List ℕ)) (b : ℕ) (c : Chunk) (bytes : List ℕ) (v : Bool)
     → SumsTellApart lists → PartIn lists contents b c → (v ≡ true → IsSome c.sum)
     → ((x : List ℕ) → Contains (cond v (bytes ∷ []) []) x → Contains lists x)
     → SumsTellApart (parts_of_content (map.get contents b) (c ∷ []) ++ cond v (bytes ∷ []) [])
@@ -83,7 +83,7 @@ tell_chunk lists contents b c bytes true apart part has hashes =
 read_has : (c : Chunk) (place n : ℕ) → (nat_eq place c.place && nat_eq n c.len && is_some c.sum) ≡ true → IsSome c.sum
 read_has c place n all = (and_parts (nat_eq place c.place && nat_eq n c.len) (is_some c.sum) all).1
 
-module _ (lists : List (List ℕ)) (apart : SumsTellApart lists) (contents : Numbered (List ℕ)) where
+module _ (lists : List (List ℕ)) (apart : SumsTellApart lists) (contents : ByNumber (List ℕ)) where
   -- what a read hashes is among the lists
   abbrev Within : List (List ℕ) → Type 0
   Within xs = (x : List ℕ) → Contains xs x → Contains lists x
@@ -108,7 +108,7 @@ module _ (lists : List (List ℕ)) (apart : SumsTellApart lists) (contents : Num
   tell_side s (volume_call.ReadChunk m place n bytes) summed hashes = tell_mount m s (map.get s.mounts m) place n bytes summed refl hashes
   tell_side s (volume_call.Relabel m epoch version) summed hashes = tell_none
 
-  tell_volume : (g : ℕ) (sides : Numbered Side) (c : VolumeCall) (o : Option Side) → EachRow sides (λ q s. SideSummed lists contents s)
+  tell_volume : (g : ℕ) (sides : ByNumber Side) (c : VolumeCall) (o : Option Side) → EachRow sides (λ q s. SideSummed lists contents s)
       → map.get sides g ≡ o → Within (hashed_by_volume c o) → SumsTellApart (parts_by_volume contents c o ++ hashed_by_volume c o)
   tell_volume g sides c None summed is hashes = tell_none
   tell_volume g sides c (Some s) summed is hashes = tell_side s c (summed g s is) hashes

@@ -10,7 +10,7 @@ ghost use Rattle.dm_durable.specs.declared.group.VolumeRow.{VolumeRow};
 ghost use Rattle.dm_group_effects.specs.OnVolume.{ReadsTellApart};
 ghost use Rattle.dm_invariant.specs.Among.{IsAmong};
 ghost use Rattle.dm_invariant.specs.Kept.{InvariantHolds};
-ghost use Rattle.dm_invariant.specs.Opened.{Fits, Opened};
+ghost use Rattle.dm_invariant.specs.Opened.{IsAsConfigured, Opened};
 ghost use Rattle.dm_invariant.specs.Sound.{CopiesSound, Sound};
 ghost use Rattle.dm_invariant.specs.StandsFor.{plain_of, shown_namespace};
 ghost use Rattle.dm_model.specs.declared.state.Joint.{Joint};
@@ -35,7 +35,7 @@ ghost use Rattle.dm_tables.specs.Rows.{EachRow};
 pub fn sound_kept()
     ensures kept { (j : Joint) (entries : List RunEntry) (k : Joint) → Opened j → NoCollision j entries → Run j entries k → InvariantHolds k }
     ensures sound { (j : Joint) (entries : List RunEntry) (k : Joint) → Opened j → NoCollision j entries → Run j entries k → Sound k }
-    ensures fits { (j : Joint) (entries : List RunEntry) (k : Joint) → Opened j → NoCollision j entries → Run j entries k → Fits k }
+    ensures fits { (j : Joint) (entries : List RunEntry) (k : Joint) → Opened j → NoCollision j entries → Run j entries k → IsAsConfigured k }
     ensures copies { (j : Joint) (entries : List RunEntry) (k : Joint) → Opened j → NoCollision j entries → Run j entries k → CopiesSound k }
     ensures volumes { (j : Joint) (entries : List RunEntry) (k : Joint) → Opened j → NoCollision j entries → Run j entries k
         → VolumesImaged k }

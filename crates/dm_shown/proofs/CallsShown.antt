@@ -14,7 +14,7 @@ use Rattle.dm_durable.specs.declared.daemon.DumpInode.{DumpInode}
 use Rattle.dm_durable.specs.declared.daemon.Entry.{Entry}
 use Rattle.dm_durable.specs.declared.daemon.Inode.{Inode}
 use Rattle.dm_durable.specs.Inodes.{bytes_online}
-use Rattle.dm_durable.specs.Tables.{Numbered}
+use Rattle.dm_durable.specs.Tables.{ByNumber}
 use Rattle.dm_model.specs.declared.answer.Answer.{Answer}
 use Rattle.dm_model.specs.declared.call.DaemonCall.{DaemonCall}
 use Rattle.dm_model.specs.declared.call.DaemonCall.TheVariants as call
@@ -122,7 +122,7 @@ away_of : (b : Bool) → is_away (cond b Unmigrating Away) ≡ true
 away_of true = refl
 away_of false = refl
 
-online_bytes : (requests : Numbered OpenRequest) (n : ℕ) (contents : Numbered (List ℕ)) (c : Contents) → is_away (state_of requests n c) ≡ false
+online_bytes : (requests : ByNumber OpenRequest) (n : ℕ) (contents : ByNumber (List ℕ)) (c : Contents) → is_away (state_of requests n c) ≡ false
     → bytes_online c ≡ content_bytes contents c
 online_bytes requests n contents (Regular bytes) here = refl
 online_bytes requests n contents (Making bytes b) here = refl
@@ -130,7 +130,7 @@ online_bytes requests n contents (Dual bytes b) here = refl
 online_bytes requests n contents (Offline len b) here = let away = away_of (has_open_recall requests n) in absurd (cc)
 
 -- the file of a path has the bytes that are shown there
-bytes_at : (contents : Numbered (List ℕ)) (n : ℕ) (o : Option Inode) (f : File) → file_of n o ≡ Some f
+bytes_at : (contents : ByNumber (List ℕ)) (n : ℕ) (o : Option Inode) (f : File) → file_of n o ≡ Some f
     → bytes_in contents o ≡ content_bytes contents f.inode.contents
 bytes_at contents n None f is = absurd (cc)
 bytes_at contents n (Some i) f is =
@@ -139,7 +139,7 @@ bytes_at contents n (Some i) f is =
     ap (λ (x : File). content_bytes contents x.inode.contents) same
 
 -- the file that a name leads to has the bytes of its contents
-pub bytes_of_file : (contents : Numbered (List ℕ)) (inodes : Numbered Inode) (name : Option Ino) (f : File) → file_named inodes name ≡ Some f
+pub bytes_of_file : (contents : ByNumber (List ℕ)) (inodes : ByNumber Inode) (name : Option Ino) (f : File) → file_named inodes name ≡ Some f
     → bytes_named contents inodes name ≡ Some (content_bytes contents f.inode.contents)
 bytes_of_file contents inodes None f is = absurd (cc)
 bytes_of_file contents inodes (Some n) f is = ap (λ bytes. Some bytes) (bytes_at contents n.0 (map.get inodes n.0) f is)

@@ -9,7 +9,7 @@ use Rattle.dm_base.specs.declared.serial.Vsn.{Vsn}
 use Rattle.dm_base.specs.declared.volume.Chunk.{Chunk}
 use Rattle.dm_rules.specs.Known.{Known, agrees_with_known, byte_and, known_bytes}
 use Rattle.dm_rules.proofs.Knowledge.{agrees-known_bytes}
-use Rattle.dm_durable.specs.Tables.{Numbered}
+use Rattle.dm_durable.specs.Tables.{ByNumber}
 use Rattle.dm_durable.specs.declared.group.VolumeRow.{VolumeRow}
 use Rattle.dm_durable.specs.Volumes.{epoch_or}
 use Rattle.dm_model.specs.declared.answer.Answer.{Answer}
@@ -104,13 +104,13 @@ second_of_two : 1 < 2
 second_of_two = omega arith
 
 -- what a mount of a chunk is of: the chunk is still there, on the mount's volume
-pub record ChunkThere (contents : Numbered (List ℕ)) (s : Side) (b : ℕ) (c : Chunk) (x : MountState) : Type 0 where
+pub record ChunkThere (contents : ByNumber (List ℕ)) (s : Side) (b : ℕ) (c : Chunk) (x : MountState) : Type 0 where
   pub volume : VolumeRow
   pub is : map.get s.group.tables.volumes c.vsn.0 ≡ Some volume
   pub still : StillThere contents s.images s.group.reservations s.group.moves volume b c
   pub on : c.vsn.0 ≡ x.vsn.0
 
-still_there : (contents : Numbered (List ℕ)) (s : Side) (b : ℕ) (c : Chunk) (x : MountState)
+still_there : (contents : ByNumber (List ℕ)) (s : Side) (b : ℕ) (c : Chunk) (x : MountState)
     → OnceLive contents s.group.tables.volumes s.images s.group.reservations s.group.moves x.epoch b c
     → x.epoch ≡ epoch_or (map.get s.group.tables.volumes x.vsn.0) → c.vsn ≡ x.vsn → ChunkThere contents s b c x
 still_there contents s b c x once epoch same =
@@ -119,7 +119,7 @@ still_there contents s b c x once epoch same =
     sym (epoch ∙ ap (λ v. epoch_or (map.get s.group.tables.volumes v)) (sym on) ∙ ap epoch_or once.is) in
     record { volume = once.volume; is = once.is; still = once.still now; on = on }
 
-chunk_there_of : (contents : Numbered (List ℕ)) (s : Side) (b : Bfid) (c : Chunk) (m : ℕ) (x : MountState) (o : Origin) → x.origin ≡ o
+chunk_there_of : (contents : ByNumber (List ℕ)) (s : Side) (b : Bfid) (c : Chunk) (m : ℕ) (x : MountState) (o : Origin) → x.origin ≡ o
     → IsForChunk b c o → map.get s.mounts m ≡ Some x
     → MountOnce contents s.group.tables.volumes s.images s.group.reservations s.group.moves x.epoch o
     → OriginKept s.group.conf s.group.reservations s.copies s.group.moves s.group.reuses m x.vsn o

@@ -7,7 +7,7 @@ use Rattle.dm_durable.specs.declared.daemon.Dump.{Dump}
 use Rattle.dm_durable.specs.declared.daemon.DumpInode.{DumpInode}
 use Rattle.dm_durable.specs.declared.daemon.DumpInode.TheVariants.{Kept, Named as NamedFile}
 use Rattle.dm_durable.specs.Dumps.{is_young_at}
-use Rattle.dm_durable.specs.Tables.{Numbered}
+use Rattle.dm_durable.specs.Tables.{ByNumber}
 use Rattle.dm_plain.specs.Namespace.{PlainDump}
 use Rattle.dm_rules.specs.Numbers.{lesser}
 use Rattle.dm_plain.specs.Steps.{with_lower_least}
@@ -16,11 +16,11 @@ use Rattle.dm_invariant.specs.StandsFor.{copy_or}
 -- ---- a dump, by the contents
 
 -- the bytes of a dump's file: its own, or the content of its bitfile
-abbrev pub dumped_bytes : Numbered (List ℕ) → DumpInode → List ℕ
+abbrev pub dumped_bytes : ByNumber (List ℕ) → DumpInode → List ℕ
 dumped_bytes contents (Kept bytes) = bytes
 dumped_bytes contents (NamedFile len b) = copy_or (map.get contents b.0)
 
-abbrev pub dump_shown : Numbered (List ℕ) → Dump → PlainDump
+abbrev pub dump_shown : ByNumber (List ℕ) → Dump → PlainDump
 dump_shown contents d = record { made = d.made.0; least = d.least; files = map_values (λ path f. dumped_bytes contents f) d.files }
 
 -- ---- young dumps

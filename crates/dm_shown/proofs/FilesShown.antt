@@ -10,40 +10,40 @@ use Rattle.dm_durable.specs.declared.daemon.Contents.{Contents}
 use Rattle.dm_durable.specs.declared.daemon.Contents.TheVariants.{Regular, Making, Dual, Offline}
 use Rattle.dm_durable.specs.declared.daemon.Inode.{Inode}
 use Rattle.dm_durable.specs.Inodes.{with_contents}
-use Rattle.dm_durable.specs.Tables.{Numbered, Named}
+use Rattle.dm_durable.specs.Tables.{ByNumber, ByName}
 use Rattle.dm_plain.specs.Namespace.{Files}
 use Rattle.dm_invariant.specs.StandsFor.{copy_or}
 
 -- ---- the bytes of a file, by the contents
 
 -- the bytes of a file: its own, or the content of its bitfile
-abbrev pub content_bytes : Numbered (List ℕ) → Contents → List ℕ
+abbrev pub content_bytes : ByNumber (List ℕ) → Contents → List ℕ
 content_bytes contents (Regular bytes) = bytes
 content_bytes contents (Making bytes b) = bytes
 content_bytes contents (Dual bytes b) = bytes
 content_bytes contents (Offline len b) = copy_or (map.get contents b.0)
 
 -- those of an inode, if it is there
-abbrev pub bytes_in : Numbered (List ℕ) → Option Inode → List ℕ
+abbrev pub bytes_in : ByNumber (List ℕ) → Option Inode → List ℕ
 bytes_in contents None = []
 bytes_in contents (Some i) = content_bytes contents i.contents
 
 -- those of the file that a name leads to
-abbrev pub bytes_named : Numbered (List ℕ) → Numbered Inode → Option Ino → Option (List ℕ)
+abbrev pub bytes_named : ByNumber (List ℕ) → ByNumber Inode → Option Ino → Option (List ℕ)
 bytes_named contents inodes None = None
 bytes_named contents inodes (Some n) = Some (bytes_in contents (map.get inodes n.0))
 
 -- the files that names and inodes show with these contents
-abbrev pub files_shown : Named Ino → Numbered Inode → Numbered (List ℕ) → Files
+abbrev pub files_shown : ByName Ino → ByNumber Inode → ByNumber (List ℕ) → Files
 files_shown names inodes contents = map_values (λ path n. bytes_in contents (map.get inodes n.0)) names
 
-named_at : (contents : Numbered (List ℕ)) (inodes : Numbered Inode) (name : Option Ino)
+named_at : (contents : ByNumber (List ℕ)) (inodes : ByNumber Inode) (name : Option Ino)
     → option_map (λ n. bytes_in contents (map.get inodes n.0)) name ≡ bytes_named contents inodes name
 named_at contents inodes None = refl
 named_at contents inodes (Some n) = refl
 
 -- the bytes of a file that is shown are those that its name leads to
-pub get-shown : (names : Named Ino) (inodes : Numbered Inode) (contents : Numbered (List ℕ)) (path : List ℕ)
+pub get-shown : (names : ByName Ino) (inodes : ByNumber Inode) (contents : ByNumber (List ℕ)) (path : List ℕ)
     → map.get (files_shown names inodes contents) path ≡ bytes_named contents inodes (map.get names path)
 get-shown names inodes contents path =
     get-mapped paths (λ q n. bytes_in contents (map.get inodes n.0)) names path ∙ named_at contents inodes (map.get names path)
@@ -51,14 +51,14 @@ get-shown names inodes contents path =
 -- ---- files after a change of names and inodes
 
 -- a file has the same bytes where its inode has
-named_same : (contents after : Numbered (List ℕ)) (inodes later : Numbered Inode) (name : Option Ino)
+named_same : (contents after : ByNumber (List ℕ)) (inodes later : ByNumber Inode) (name : Option Ino)
     → ((n : Ino) → name ≡ Some n → bytes_in after (map.get later n.0) ≡ bytes_in contents (map.get inodes n.0))
     → bytes_named after later name ≡ bytes_named contents inodes name
 named_same contents after inodes later None same = refl
 named_same contents after inodes later (Some n) same = ap (λ bytes. Some bytes) (same n refl)
 
 -- the same files where each inode has the same bytes
-pub same_files : (names : Named Ino) (inodes later : Numbered Inode) (contents after : Numbered (List ℕ))
+pub same_files : (names : ByName Ino) (inodes later : ByNumber Inode) (contents after : ByNumber (List ℕ))
     → ((n : ℕ) → bytes_in after (map.get later n) ≡ bytes_in contents (map.get inodes n))
     → files_shown names later after ≡ files_shown names inodes contents
 same_files names inodes later contents after same =
@@ -67,7 +67,7 @@ same_files names inodes later contents after same =
     ∙ sym (get-shown names inodes contents q))
 
 -- a file is put at a path, whose number no other path has
-pub files_put : (names : Named Ino) (inodes : Numbered Inode) (contents : Numbered (List ℕ)) (path : List ℕ) (n : Ino) (i : Inode)
+pub files_put : (names : ByName Ino) (inodes : ByNumber Inode) (contents : ByNumber (List ℕ)) (path : List ℕ) (n : Ino) (i : Inode)
     → ((q : List ℕ) (m : Ino) → map.get names q ≡ Some m → m.0 ≡ n.0 → q ≡ path)
     → files_shown (map.insert names path n) (map.insert inodes n.0 i) contents
     ≡ map.insert (files_shown names inodes contents) path (content_bytes contents i.contents)
@@ -89,7 +89,7 @@ files_put names inodes contents path n i alone =
     ])
 
 -- and one is taken away
-pub files_cut : (names : Named Ino) (inodes : Numbered Inode) (contents : Numbered (List ℕ)) (path : List ℕ) (n : Ino)
+pub files_cut : (names : ByName Ino) (inodes : ByNumber Inode) (contents : ByNumber (List ℕ)) (path : List ℕ) (n : Ino)
     → ((q : List ℕ) (m : Ino) → map.get names q ≡ Some m → m.0 ≡ n.0 → q ≡ path)
     → files_shown (map.remove names path) (map.remove inodes n.0) contents ≡ map.remove (files_shown names inodes contents) path
 files_cut names inodes contents path n alone =
@@ -108,13 +108,13 @@ files_cut names inodes contents path n alone =
     ])
 
 -- an inode takes another form
-reformed_in : (contents : Numbered (List ℕ)) (f : Contents → Contents) (o : Option Inode)
+reformed_in : (contents : ByNumber (List ℕ)) (f : Contents → Contents) (o : Option Inode)
     → ((i : Inode) → o ≡ Some i → content_bytes contents (f i.contents) ≡ content_bytes contents i.contents)
     → bytes_in contents (option_map (with_contents f) o) ≡ bytes_in contents o
 reformed_in contents f None same = refl
 reformed_in contents f (Some i) same = same i refl
 
-pub files_reformed : (names : Named Ino) (inodes : Numbered Inode) (contents : Numbered (List ℕ)) (n : ℕ) (f : Contents → Contents)
+pub files_reformed : (names : ByName Ino) (inodes : ByNumber Inode) (contents : ByNumber (List ℕ)) (n : ℕ) (f : Contents → Contents)
     → ((i : Inode) → map.get inodes n ≡ Some i → content_bytes contents (f i.contents) ≡ content_bytes contents i.contents)
     → files_shown names (adjust inodes n (with_contents f)) contents ≡ files_shown names inodes contents
 files_reformed names inodes contents n f same =
@@ -127,7 +127,7 @@ files_reformed names inodes contents n f same =
     ])
 
 -- and so does each of them
-pub all_reformed : (names : Named Ino) (inodes : Numbered Inode) (contents : Numbered (List ℕ)) (f : Contents → Contents)
+pub all_reformed : (names : ByName Ino) (inodes : ByNumber Inode) (contents : ByNumber (List ℕ)) (f : Contents → Contents)
     → ((n : ℕ) (i : Inode) → map.get inodes n ≡ Some i → content_bytes contents (f i.contents) ≡ content_bytes contents i.contents)
     → files_shown names (map_values (λ n i. with_contents f i) inodes) contents ≡ files_shown names inodes contents
 all_reformed names inodes contents f same =

@@ -17,7 +17,7 @@ use Rattle.dm_durable.specs.declared.daemon.Entry.{Entry}
 use Rattle.dm_durable.specs.declared.daemon.Inode.{Inode}
 use Rattle.dm_durable.specs.Dumps.{is_young, is_young_at}
 use Rattle.dm_durable.specs.Entries.{is_stored}
-use Rattle.dm_durable.specs.Tables.{Numbered, Named}
+use Rattle.dm_durable.specs.Tables.{ByNumber, ByName}
 use Rattle.dm_model.specs.declared.state.Joint.{Joint}
 use Rattle.dm_model.specs.Files.{asked_by}
 use Rattle.dm_plain.specs.Namespace.{Namespace, PlainDump, Dumps, Files}
@@ -31,7 +31,7 @@ use Rattle.dm_shown.proofs.FilesShown.{bytes_in, bytes_named, content_bytes, fil
 -- ---- a namespace agrees with tables and contents
 
 -- it has the files that they show, of each name a dump that is young where they have it, and the time and age in force
-pub record Agrees (t : DaemonTables) (contents : Numbered (List ℕ)) (ns : Namespace) : Type 0 where
+pub record Agrees (t : DaemonTables) (contents : ByNumber (List ℕ)) (ns : Namespace) : Type 0 where
   pub files : ns.files ≡ files_shown t.names t.inodes contents
   pub dumps : (name : List ℕ) → SameYoung t.time.0 (map.get ns.dumps name) (option_map (dump_shown contents) (map.get t.dumps name))
   pub now : ns.now ≡ t.time.0
@@ -47,7 +47,7 @@ row_if : (now : ℕ) (name : List ℕ) (o : Option Dump) → cond (passes (λ k 
 row_if now name None = refl
 row_if now name (Some d) = refl
 
-get-young : (now : ℕ) (dumps : Named Dump) (name : List ℕ) → map.get (young_dumps now dumps) name ≡ young_row now (map.get dumps name)
+get-young : (now : ℕ) (dumps : ByName Dump) (name : List ℕ) → map.get (young_dumps now dumps) name ≡ young_row now (map.get dumps name)
 get-young now dumps name =
     map.get-retain_keys dumps (λ q. passes (λ k d. is_young now d) q (map.get dumps q)) name
     (λ x tied. ap (λ q. passes (λ k d. is_young now d) q (map.get dumps q)) (sym (paths.same name x tied)))

@@ -19,7 +19,7 @@ use Rattle.dm_durable.specs.declared.daemon.Inode.{Inode}
 use Rattle.dm_durable.specs.Daemon.{after_begin_put, after_begin_put_at, after_release, after_remove, after_restore, after_step, number_or}
 use Rattle.dm_durable.specs.DaemonConditions.{MayStep}
 use Rattle.dm_durable.specs.Dumps.{file_in}
-use Rattle.dm_durable.specs.Tables.{Numbered, Named}
+use Rattle.dm_durable.specs.Tables.{ByNumber, ByName}
 use Rattle.dm_model.specs.declared.call.Component.{Component}
 use Rattle.dm_model.specs.declared.call.Component.TheVariants as component
 use Rattle.dm_model.specs.declared.plan.Ending.{Ending}
@@ -67,7 +67,7 @@ restored_names t target path change None differ = refl
 restored_names t target path change (Some f) differ = get-beside paths t.names target (record { 0 = change }) path differ
 
 -- a file that is written keeps its number
-written_names : (names : Named Ino) (p path : List ℕ) (change : ℕ) (n : Ino) → map.get names path ≡ Some n
+written_names : (names : ByName Ino) (p path : List ℕ) (change : ℕ) (n : Ino) → map.get names path ≡ Some n
     → map.get (map.insert names p (record { 0 = number_or (map.get names p) change })) path ≡ Some n
 written_names names p path change n is =
     let new : Ino = record { 0 = number_or (map.get names p) change } in
@@ -85,7 +85,7 @@ unfound_of true change found e = absurd (cc)
 unfound_of false change found e = refl
 
 -- is not on the inode that was changed
-noted_apart : (requests : Numbered OpenRequest) (change : ℕ) (n : Ino)
+noted_apart : (requests : ByNumber OpenRequest) (change : ℕ) (n : Ino)
     → EachRow (with_change_on requests change (Some n)) (λ k r. r.found ≡ None → r.ino.0 ≡ n.0 → ⊥)
 noted_apart requests change n =
     each-map numbers (λ k r. r.found ≡ None → r.ino.0 ≡ n.0 → ⊥) (λ k. with_change n.0 change) requests

@@ -10,7 +10,7 @@ use Rattle.dm_durable.specs.declared.group.GroupStep.TheVariants as group_step
 use Rattle.dm_durable.specs.Daemon.{after_record}
 use Rattle.dm_durable.specs.DaemonConditions.{MayFollow}
 use Rattle.dm_durable.specs.Inodes.{has_making}
-use Rattle.dm_durable.specs.Tables.{Numbered}
+use Rattle.dm_durable.specs.Tables.{ByNumber}
 use Rattle.dm_model.specs.declared.call.Component.{Component}
 use Rattle.dm_model.specs.declared.call.Component.TheVariants as component
 use Rattle.dm_model.specs.declared.plan.Ending.{Ending}
@@ -40,7 +40,7 @@ use Rattle.dm_shown.proofs.RecordsShown.{TakesRight, contents_after, record_show
 -- ---- what a joint state has of files
 
 abbrev pub Shown : Type 0
-Shown = DaemonTables × Numbered (List ℕ)
+Shown = DaemonTables × ByNumber (List ℕ)
 
 abbrev pub files_of : Joint → Shown
 files_of j = (j.daemon.tables, j.history.contents)
@@ -199,7 +199,7 @@ group_paid g (Some (payload.Group h r)) files of = refl
 
 -- ---- the end of the program
 
-stopped_if : (t : DaemonTables) (contents : Numbered (List ℕ)) (ns : Namespace) (making : Bool) → Agrees t contents ns
+stopped_if : (t : DaemonTables) (contents : ByNumber (List ℕ)) (ns : Namespace) (making : Bool) → Agrees t contents ns
     → Agrees (cond making (after_record t (record { time = t.time; step = Restart })) t) contents ns
 stopped_if t contents ns true a = restart_shown t contents t.time ns a
 stopped_if t contents ns false a = a

@@ -26,7 +26,7 @@ use Rattle.dm_durable.specs.DaemonConditions.{MayBeMade, MayBeginPut, MayFollow,
 use Rattle.dm_durable.specs.DaemonJournal.{IsGiven, MayBeDumpFile, MayBeNamed}
 use Rattle.dm_durable.specs.Dumps.{as_restored, file_dumped, file_dumped_if, file_in, files_dumped, is_young, new_dump, with_least}
 use Rattle.dm_durable.specs.Inodes.{as_ended, as_making, as_offline, as_recalled, bitfile_of, bytes_online, length_of, with_contents}
-use Rattle.dm_durable.specs.Tables.{Numbered, Named}
+use Rattle.dm_durable.specs.Tables.{ByNumber, ByName}
 use Rattle.dm_model.specs.Effects.{contents_with}
 use Rattle.dm_model.specs.Files.{file_named, file_of}
 use Rattle.dm_model.specs.Project.{plain_run, steps_of_record, steps_of_step}
@@ -42,7 +42,7 @@ use Rattle.dm_shown.proofs.FilesShown.{all_reformed, bytes_in, bytes_named, cont
 use Rattle.dm_shown.proofs.NamespaceShown.{Agrees}
 
 -- the contents after a step, of these tables
-abbrev pub contents_after : DaemonTables → Numbered (List ℕ) → DaemonStep → Numbered (List ℕ)
+abbrev pub contents_after : DaemonTables → ByNumber (List ℕ) → DaemonStep → ByNumber (List ℕ)
 contents_after t contents (BeginPut path b groups) = contents_with b.0 (file_named t.inodes (map.get t.names path)) contents
 contents_after t contents (Write path change bytes) = contents
 contents_after t contents (Remove path change) = contents
@@ -59,7 +59,7 @@ contents_after t contents Restart = contents
 contents_after t contents (Age age) = contents
 
 -- what is taken is the content
-abbrev pub TakesRight : Numbered Inode → Numbered (List ℕ) → DaemonStep → Type 0
+abbrev pub TakesRight : ByNumber Inode → ByNumber (List ℕ) → DaemonStep → Type 0
 TakesRight inodes contents (Taken n bytes) = TakenRight inodes contents n.0 bytes
 TakesRight inodes contents (Write path change bytes) = Unit {0}
 TakesRight inodes contents (Remove path change) = Unit {0}
@@ -78,19 +78,19 @@ TakesRight inodes contents (Age age) = Unit {0}
 -- ---- tables that show the same
 
 -- files that are the same, and the rest as it was
-pub same_shown : (t u : DaemonTables) (contents : Numbered (List ℕ)) (ns : Namespace) → u.time ≡ t.time → u.dumps ≡ t.dumps → u.age ≡ t.age
+pub same_shown : (t u : DaemonTables) (contents : ByNumber (List ℕ)) (ns : Namespace) → u.time ≡ t.time → u.dumps ≡ t.dumps → u.age ≡ t.age
     → files_shown u.names u.inodes contents ≡ files_shown t.names t.inodes contents → Agrees t contents ns → Agrees u contents ns
 same_shown t u contents ns time dumps age files a = record {
   files = a.files ∙ sym files;
   dumps = λ name.
       subst (λ (s : Secs). SameYoung s.0 (map.get ns.dumps name) (option_map (dump_shown contents) (map.get u.dumps name))) (sym time)
-      (subst (λ (d : Named DumpRow). SameYoung t.time.0 (map.get ns.dumps name) (option_map (dump_shown contents) (map.get d name))) (sym dumps) (a.dumps name));
+      (subst (λ (d : ByName DumpRow). SameYoung t.time.0 (map.get ns.dumps name) (option_map (dump_shown contents) (map.get d name))) (sym dumps) (a.dumps name));
   now = a.now ∙ sym (ap (λ (s : Secs). s.0) time);
   age = a.age ∙ sym age;
 }
 
 -- a later time
-pub time_shown : (t : DaemonTables) (contents : Numbered (List ℕ)) (ns : Namespace) (time : Secs) → t.time.0 ≤ time.0 → Agrees t contents ns
+pub time_shown : (t : DaemonTables) (contents : ByNumber (List ℕ)) (ns : Namespace) (time : Secs) → t.time.0 ≤ time.0 → Agrees t contents ns
     → Agrees (record t { time = time }) contents (record ns { now = time.0 })
 time_shown t contents ns time on a = record {
   files = a.files;
@@ -102,21 +102,21 @@ time_shown t contents ns time on a = record {
 
 -- ---- the forms of a file
 
-ended_bytes : (contents : Numbered (List ℕ)) (dual : Bool) (c : Contents) → content_bytes contents (as_ended dual c) ≡ content_bytes contents c
+ended_bytes : (contents : ByNumber (List ℕ)) (dual : Bool) (c : Contents) → content_bytes contents (as_ended dual c) ≡ content_bytes contents c
 ended_bytes contents true (Making bytes b) = refl
 ended_bytes contents false (Making bytes b) = refl
 ended_bytes contents dual (Regular bytes) = refl
 ended_bytes contents dual (Dual bytes b) = refl
 ended_bytes contents dual (Offline len b) = refl
 
-released_bytes : (entries : Numbered Entry) (contents : Numbered (List ℕ)) (c : Contents) → HeldRightly entries contents c
+released_bytes : (entries : ByNumber Entry) (contents : ByNumber (List ℕ)) (c : Contents) → HeldRightly entries contents c
     → content_bytes contents (as_offline c) ≡ content_bytes contents c
 released_bytes entries contents (Regular bytes) held = refl
 released_bytes entries contents (Making bytes b) held = refl
 released_bytes entries contents (Dual bytes b) held = ap copy_or held.1
 released_bytes entries contents (Offline len b) held = refl
 
-recalled_bytes : (contents : Numbered (List ℕ)) (bytes : List ℕ) (c : Contents)
+recalled_bytes : (contents : ByNumber (List ℕ)) (bytes : List ℕ) (c : Contents)
     → ((b : Bfid) (len : ℕ) → c ≡ Offline len b → map.get contents b.0 ≡ Some bytes)
     → content_bytes contents (as_recalled bytes c) ≡ content_bytes contents c
 recalled_bytes contents bytes (Regular own) right = refl
@@ -124,32 +124,32 @@ recalled_bytes contents bytes (Making own b) right = refl
 recalled_bytes contents bytes (Dual own b) right = refl
 recalled_bytes contents bytes (Offline len b) right = sym (ap copy_or (right b len refl))
 
-begun_bytes : (contents : Numbered (List ℕ)) (b : Bfid) (c : Contents) → MayBeMade c
+begun_bytes : (contents : ByNumber (List ℕ)) (b : Bfid) (c : Contents) → MayBeMade c
     → content_bytes (map.insert contents b.0 (bytes_online c)) (as_making b c) ≡ content_bytes contents c
 begun_bytes contents b (Regular bytes) may = refl
 begun_bytes contents b (Making bytes d) may = refl
 begun_bytes contents b (Dual bytes d) may = absurd may
 begun_bytes contents b (Offline len d) may = absurd may
 
-restored_bytes : (contents : Numbered (List ℕ)) (f : DumpInode) → content_bytes contents (as_restored f) ≡ dumped_bytes contents f
+restored_bytes : (contents : ByNumber (List ℕ)) (f : DumpInode) → content_bytes contents (as_restored f) ≡ dumped_bytes contents f
 restored_bytes contents (KeptFile bytes) = refl
 restored_bytes contents (NamedFile len b) = refl
 
 -- ---- a dump of all files
 
-dumped_same : (entries : Numbered Entry) (contents : Numbered (List ℕ)) (c : Contents) → HeldRightly entries contents c
+dumped_same : (entries : ByNumber Entry) (contents : ByNumber (List ℕ)) (c : Contents) → HeldRightly entries contents c
     → dumped_bytes contents (file_dumped c) ≡ content_bytes contents c
 dumped_same entries contents (Regular bytes) held = refl
 dumped_same entries contents (Making bytes b) held = refl
 dumped_same entries contents (Dual bytes b) held = ap copy_or held.1
 dumped_same entries contents (Offline len b) held = refl
 
-copy_same : (entries : Numbered Entry) (contents : Numbered (List ℕ)) (o : Option Inode)
+copy_same : (entries : ByNumber Entry) (contents : ByNumber (List ℕ)) (o : Option Inode)
     → ((i : Inode) → o ≡ Some i → HeldRightly entries contents i.contents) → dumped_bytes contents (file_dumped_if o) ≡ bytes_in contents o
 copy_same entries contents None held = refl
 copy_same entries contents (Some i) held = dumped_same entries contents i.contents (held i refl)
 
-copy_named : (entries : Numbered Entry) (inodes : Numbered Inode) (contents : Numbered (List ℕ)) (o : Option Ino)
+copy_named : (entries : ByNumber Entry) (inodes : ByNumber Inode) (contents : ByNumber (List ℕ)) (o : Option Ino)
     → EachRow inodes (λ n i. HeldRightly entries contents i.contents)
     → option_map (dumped_bytes contents) (option_map (λ n. file_dumped_if (map.get inodes n.0)) o) ≡ bytes_named contents inodes o
 copy_named entries inodes contents None held = refl
@@ -157,7 +157,7 @@ copy_named entries inodes contents (Some n) held =
     ap (λ x. Some x) (copy_same entries contents (map.get inodes n.0) (λ i is. held n.0 i is))
 
 -- the files of a dump that is made are those that are shown
-files_copied : (names : Named Ino) (entries : Numbered Entry) (inodes : Numbered Inode) (contents : Numbered (List ℕ))
+files_copied : (names : ByName Ino) (entries : ByNumber Entry) (inodes : ByNumber Inode) (contents : ByNumber (List ℕ))
     → EachRow inodes (λ n i. HeldRightly entries contents i.contents)
     → map_values (λ path f. dumped_bytes contents f) (files_dumped names inodes) ≡ files_shown names inodes contents
 files_copied names entries inodes contents held =
@@ -170,7 +170,7 @@ files_copied names entries inodes contents held =
 abbrev dumped : ℕ → ℕ → Files → PlainDump
 dumped made least files = record { made = made; least = least; files = files }
 
-copy_is : (t : DaemonTables) (contents : Numbered (List ℕ)) (ns : Namespace)
+copy_is : (t : DaemonTables) (contents : ByNumber (List ℕ)) (ns : Namespace)
     → EachRow t.inodes (λ n i. HeldRightly t.entries contents i.contents) → Agrees t contents ns
     → copy_of ns ≡ dump_shown contents (new_dump t.time.0 t.age t.names t.inodes)
 unfolding copy_of
@@ -181,7 +181,7 @@ copy_is t contents ns held a =
 -- ---- a stop
 
 -- puts that are over leave the bytes of their files
-pub restart_shown : (t : DaemonTables) (contents : Numbered (List ℕ)) (time : Secs) (ns : Namespace)
+pub restart_shown : (t : DaemonTables) (contents : ByNumber (List ℕ)) (time : Secs) (ns : Namespace)
     → Agrees (record t { time = time }) contents ns → Agrees (after_step (record t { time = time }) Restart) contents ns
 restart_shown t contents time ns a =
     same_shown (record t { time = time }) (after_step (record t { time = time }) Restart) contents ns refl refl refl
@@ -189,7 +189,7 @@ restart_shown t contents time ns a =
 
 -- ---- a step of each kind
 
-module _ (t : DaemonTables) (contents : Numbered (List ℕ)) (cap : ℕ) (kept : FilesKept t contents cap) (time : Secs) (ns : Namespace) where
+module _ (t : DaemonTables) (contents : ByNumber (List ℕ)) (cap : ℕ) (kept : FilesKept t contents cap) (time : Secs) (ns : Namespace) where
   abbrev Later : DaemonTables
   Later = record t { time = time }
 
@@ -458,7 +458,7 @@ module _ (t : DaemonTables) (contents : Numbered (List ℕ)) (cap : ℕ) (kept :
 -- ---- any record
 
 -- a record that may follow does its plain steps
-pub record_shown : (t : DaemonTables) (contents : Numbered (List ℕ)) (cap : ℕ) (ns : Namespace) (r : DaemonRecord) → FilesKept t contents cap
+pub record_shown : (t : DaemonTables) (contents : ByNumber (List ℕ)) (cap : ℕ) (ns : Namespace) (r : DaemonRecord) → FilesKept t contents cap
     → MayFollow t r → TakesRight t.inodes contents r.step → Agrees t contents ns
     → Agrees (after_record t r) (contents_after t contents r.step) (plain_run (steps_of_record r) ns)
 record_shown t contents cap ns r kept may right a =

@@ -6,7 +6,7 @@ use Rattle.dm_base.specs.declared.identifier.GroupId.{GroupId}
 use Rattle.dm_base.specs.declared.identifier.Secs.{Secs}
 use Rattle.dm_base.specs.declared.serial.Vsn.{Vsn}
 use Rattle.dm_base.specs.declared.volume.Chunk.{Chunk}
-use Rattle.dm_durable.specs.Tables.{Numbered}
+use Rattle.dm_durable.specs.Tables.{ByNumber}
 use Rattle.dm_model.specs.declared.answer.Answer.TheVariants as answer
 use Rattle.dm_model.specs.declared.call.Call.TheVariants as call
 use Rattle.dm_model.specs.declared.call.DaemonCall.TheVariants as daemon_call
@@ -61,7 +61,7 @@ IsForChunk b c (origin.Reuse next_epoch version reading) = ⊥
 -- what is known of bytes that a read of the whole chunk gave: they are the chunk's part of the content where reads of the
 -- mount give what is known; and where the chunk has a sum and they have it, they are the part unless the part is
 -- another list of their length with their sum
-pub record ReadKnown (contents : Numbered (List ℕ)) (b : ℕ) (c : Chunk) (x : MountState) (bytes : List ℕ) : Type 0 where
+pub record ReadKnown (contents : ByNumber (List ℕ)) (b : ℕ) (c : Chunk) (x : MountState) (bytes : List ℕ) : Type 0 where
   pub whole : List ℕ
   pub content : map.get contents b ≡ Some whole
   pub len : length bytes ≡ c.len

@@ -13,7 +13,7 @@ use Rattle.dm_plain.proofs.Laws.{bytes_of-no_files}
 use Rattle.dm_site.specs.declared.session.Stop.{Stop}
 use Rattle.dm_site.specs.declared.session.Stop.TheVariants as stop
 use Rattle.dm_site.specs.State.{State, beginning, Agrees}
-use Rattle.dm_site.specs.Session.{Entry, Run, heard_of, faults_of, replies_of, plain_step, plain_from, no_file, plain_of, ReadsFrom, ReadsPlain, Counts}
+use Rattle.dm_site.specs.Session.{Exchange, ScriptRun, heard_of, faults_of, replies_of, plain_step, plain_from, no_file, plain_of, ReadsFrom, ReadsPlain, Counts}
 use Rattle.dm_site.specs.Talk.{Standing, Talk, Stopped}
 use Rattle.dm_site.specs.declared.status.Status.{Status}
 use Rattle.dm_site.specs.declared.status.Status.TheVariants as status
@@ -36,12 +36,12 @@ taken_then (Some left) b c xs ys (mid, is, split) k =
     (rest.0, rest.1, split ∙ ap (λ (l : List ℕ). xs ++ l) rest.2 ∙ sym (append_assoc xs ys rest.0))
 
 -- the reads, each by itself
-reads_at : (plain : Namespace) (before after : List Entry) (path bytes : List ℕ) (faults : ℕ)
+reads_at : (plain : Namespace) (before after : List Exchange) (path bytes : List ℕ) (faults : ℕ)
     → ReadsFrom plain (before ++ record { heard = heard.Command (command.Read path); faults = faults; reply = reply.Content bytes } ∷ after) → bytes_of path (plain_from plain before) ≡ Some bytes
 reads_at plain [] after path bytes faults h = h.0
 reads_at plain (e ∷ before) after path bytes faults h = reads_at (plain_step plain e.heard e.reply) before after path bytes faults h.1
 
-pub reads_plain : (entries : List Entry) → ReadsFrom no_file entries → ReadsPlain entries
+pub reads_plain : (entries : List Exchange) → ReadsFrom no_file entries → ReadsPlain entries
 reads_plain entries h before after path bytes faults e = reads_at no_file before after path bytes faults (subst (ReadsFrom no_file) e h)
 
 -- no file is there, and none in the namespace
@@ -59,7 +59,7 @@ script_of told before after old new input left missing status t begins took ende
   final = new.state;
   took = took;
   gave = t.took;
-  run = subst (λ (s : State). Run s t.entries new.state) begins t.run;
+  run = subst (λ (s : State). ScriptRun s t.entries new.state) begins t.run;
   ended = ended;
   faults = inl t.counts;
   reads = λ yes. reads_plain t.entries (t.plain yes no_file (agrees_none old.state old.image begins)).1;

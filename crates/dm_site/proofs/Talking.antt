@@ -14,32 +14,32 @@ use Rattle.dm_reply.proofs.Taking.{took_none, took_more}
 use Rattle.dm_plain.specs.Namespace.{Namespace}
 use Rattle.dm_site.specs.State.{State, Agrees}
 use Rattle.dm_site.specs.Rules.{Step}
-use Rattle.dm_site.specs.Session.{Entry, Run, heard_of, faults_of, replies_of, plain_step, plain_from, ReadIs, ReadsFrom, Counts}
+use Rattle.dm_site.specs.Session.{Exchange, ScriptRun, heard_of, faults_of, replies_of, plain_step, plain_from, ReadIs, ReadsFrom, Counts}
 use Rattle.dm_site.specs.declared.session.Stop.{Stop}
 use Rattle.dm_site.specs.declared.session.Stop.TheVariants as stop
 use Rattle.dm_site.specs.Talk.{Standing, Talk, Stopped}
 
-run_then : (es fs : List Entry) (a b c : State) → Run a es b → Run b fs c → Run a (es ++ fs) c
-run_then [] fs a b c e k = subst (λ (s : State). Run s fs c) e k
+run_then : (es fs : List Exchange) (a b c : State) → ScriptRun a es b → ScriptRun b fs c → ScriptRun a (es ++ fs) c
+run_then [] fs a b c e k = subst (λ (s : State). ScriptRun s fs c) e k
 run_then (e ∷ es) fs a b c h k = (h.0, h.1, run_then es fs h.0 b c h.2 k)
 
-heard_then : (es fs : List Entry) → heard_of (es ++ fs) ≡ heard_of es ++ heard_of fs
+heard_then : (es fs : List Exchange) → heard_of (es ++ fs) ≡ heard_of es ++ heard_of fs
 heard_then [] fs = refl
 heard_then (e ∷ es) fs = ap (λ hs. e.heard ∷ hs) (heard_then es fs)
 
-replies_then : (es fs : List Entry) → replies_of (es ++ fs) ≡ replies_of es ++ replies_of fs
+replies_then : (es fs : List Exchange) → replies_of (es ++ fs) ≡ replies_of es ++ replies_of fs
 replies_then [] fs = refl
 replies_then (e ∷ es) fs = ap (λ t. text_of e.reply ++ t) (replies_then es fs) ∙ sym (append_assoc (text_of e.reply) (replies_of es) (replies_of fs))
 
-faults_then : (es fs : List Entry) → faults_of (es ++ fs) ≡ faults_of es + faults_of fs
+faults_then : (es fs : List Exchange) → faults_of (es ++ fs) ≡ faults_of es + faults_of fs
 faults_then [] fs = omega arith
 faults_then (e ∷ es) fs = omega (arith, faults_then es fs)
 
-plain_then : (plain : Namespace) (es fs : List Entry) → plain_from plain (es ++ fs) ≡ plain_from (plain_from plain es) fs
+plain_then : (plain : Namespace) (es fs : List Exchange) → plain_from plain (es ++ fs) ≡ plain_from (plain_from plain es) fs
 plain_then plain [] fs = refl
 plain_then plain (e ∷ es) fs = plain_then (plain_step plain e.heard e.reply) es fs
 
-reads_then : (plain : Namespace) (es fs : List Entry) → ReadsFrom plain es → ReadsFrom (plain_from plain es) fs → ReadsFrom plain (es ++ fs)
+reads_then : (plain : Namespace) (es fs : List Exchange) → ReadsFrom plain es → ReadsFrom (plain_from plain es) fs → ReadsFrom plain (es ++ fs)
 reads_then plain [] fs h k = k
 reads_then plain (e ∷ es) fs h k = (h.0, reads_then (plain_step plain e.heard e.reply) es fs h.1 k)
 
@@ -104,7 +104,7 @@ pub talk_one : (told : Bool) (a b : Standing) (input left output missing : List 
     → (IsTrue told → (plain : Namespace) → Agrees plain a.state a.image → Agrees (plain_step plain heard reply) b.state b.image × ReadIs plain heard reply)
     → Talk told a b input left missing
 talk_one told a b input left output missing heard faults reply consumes step counts said took plain =
-    let entry : Entry = record { heard = heard; faults = faults; reply = reply } in
+    let entry : Exchange = record { heard = heard; faults = faults; reply = reply } in
     record {
       entries = entry ∷ [];
       output = output;

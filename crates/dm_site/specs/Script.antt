@@ -5,7 +5,7 @@ use Rattle.dm_reply.specs.Took.{Took}
 use Rattle.dm_proto.specs.Stream.{Hears, Ending, AtEnd, Inside, TooLong}
 use Rattle.dm_proto.specs.declared.heard.Heard.{Heard}
 use Rattle.dm_site.specs.State.{State, beginning, Agrees}
-use Rattle.dm_site.specs.Session.{Entry, Run, heard_of, faults_of, replies_of, plain_of, ReadsPlain, Counts}
+use Rattle.dm_site.specs.Session.{Exchange, ScriptRun, heard_of, faults_of, replies_of, plain_of, ReadsPlain, Counts}
 
 -- the words are `run` and a folder that isn't empty
 pub record AreRun (words : List (List ℕ)) : Type 0 where
@@ -23,24 +23,24 @@ abbrev pub ReadToEnd : Option (List ℕ) → Type 0
 ReadToEnd rest = IfSome rest (λ bytes. bytes ≡ [])
 
 -- All that was heard in the input was answered, whole.
-pub record AllAnswered (input output : List ℕ) (entries : List Entry) (ending : Ending) : Type 0 where
+pub record AllAnswered (input output : List ℕ) (entries : List Exchange) (ending : Ending) : Type 0 where
   pub hears : Hears input (heard_of entries) ending
   pub whole : output ≡ replies_of entries
 
 -- A front of what was heard was answered.
-pub record FrontHeard (input : List ℕ) (entries : List Entry) : Type 0 where
+pub record FrontHeard (input : List ℕ) (entries : List Exchange) : Type 0 where
   pub later : List Heard
   pub ending : Ending
   pub hears : Hears input (heard_of entries ++ later) ending
 
 -- The replies are whole but for the last one, which is cut.
-pub record CutShort (output : List ℕ) (entries : List Entry) : Type 0 where
+pub record CutShort (output : List ℕ) (entries : List Exchange) : Type 0 where
   pub missing : List ℕ
   pub some : 0 < length missing
   pub cut : output ++ missing ≡ replies_of entries
 
 -- How a run ended, what was heard until then, and what was answered.
-pub data Ended (status : ℕ) (rest : Option (List ℕ)) (input output : List ℕ) (entries : List Entry) : Type 0 where
+pub data Ended (status : ℕ) (rest : Option (List ℕ)) (input output : List ℕ) (entries : List Exchange) : Type 0 where
   -- the input ended, or a command was begun when it ended, or a line was too long
   ReachedEnd : status ≡ 0 → AllAnswered input output entries AtEnd → ReadToEnd rest → Ended status rest input output entries
   EndedInside : status ≡ 8 → AllAnswered input output entries Inside → ReadToEnd rest → Ended status rest input output entries
@@ -64,11 +64,11 @@ FaultsCounted status faults old new = Counts faults old new ⊎ ((status ≡ 6) 
 pub record IsScript (told : Bool) (left rest taken given : Option (List ℕ)) (old new : ℕ) (image : List ℕ) (status : ℕ) : Type 0 where
   pub input : List ℕ
   pub output : List ℕ
-  pub entries : List Entry
+  pub entries : List Exchange
   pub final : State
   pub took : TakenFrom left rest input
   pub gave : Took taken given output
-  pub run : Run beginning entries final
+  pub run : ScriptRun beginning entries final
   pub ended : Ended status rest input output entries
   pub faults : FaultsCounted status (faults_of entries) old new
   pub reads : IsTrue told → ReadsPlain entries

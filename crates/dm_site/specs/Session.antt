@@ -13,26 +13,26 @@ use Rattle.dm_site.specs.State.{State}
 use Rattle.dm_site.specs.Rules.{Step}
 
 -- a command or a line that is none, the faults that the device reported meanwhile, and the reply
-pub record Entry : Type 0 where
+pub record Exchange : Type 0 where
   pub heard : Heard
   pub faults : ℕ
   pub reply : Reply
 
 -- the entries are steps, each from the state that the one before it left
-abbrev pub Run : State → List Entry → State → Type 0
-Run old [] new = new ≡ old
-Run old (e ∷ es) new = (mid : State) × Step old e.heard e.faults e.reply mid × Run mid es new
+abbrev pub ScriptRun : State → List Exchange → State → Type 0
+ScriptRun old [] new = new ≡ old
+ScriptRun old (e ∷ es) new = (mid : State) × Step old e.heard e.faults e.reply mid × ScriptRun mid es new
 
-abbrev pub heard_of : List Entry → List Heard
+abbrev pub heard_of : List Exchange → List Heard
 heard_of entries = map (λ e. e.heard) entries
 
 -- the faults meanwhile
-abbrev pub faults_of : List Entry → ℕ
+abbrev pub faults_of : List Exchange → ℕ
 faults_of [] = 0
 faults_of (e ∷ es) = e.faults + faults_of es
 
 -- the texts of the replies
-abbrev pub replies_of : List Entry → List ℕ
+abbrev pub replies_of : List Exchange → List ℕ
 replies_of entries = flat_map (λ e. text_of e.reply) entries
 
 -- What the entry does to the plain namespace: an accepted write alone changes it.
@@ -40,7 +40,7 @@ abbrev pub plain_step : Namespace → Heard → Reply → Namespace
 plain_step plain (heard.Command (command.Write path bytes)) (reply.Changed change) = with_file path bytes plain
 plain_step plain heard reply = plain
 
-abbrev pub plain_from : Namespace → List Entry → Namespace
+abbrev pub plain_from : Namespace → List Exchange → Namespace
 plain_from plain [] = plain
 plain_from plain (e ∷ es) = plain_from (plain_step plain e.heard e.reply) es
 
@@ -49,12 +49,12 @@ abbrev pub no_file : Namespace
 no_file = no_files 0
 
 -- the plain namespace after these entries
-abbrev pub plain_of : List Entry → Namespace
+abbrev pub plain_of : List Exchange → Namespace
 plain_of entries = plain_from no_file entries
 
 -- Each read that is answered with bytes is answered with those that the plain namespace has by then.
-abbrev pub ReadsPlain : List Entry → Type 0
-ReadsPlain entries = (before after : List Entry) (path bytes : List ℕ) (faults : ℕ)
+abbrev pub ReadsPlain : List Exchange → Type 0
+ReadsPlain entries = (before after : List Exchange) (path bytes : List ℕ) (faults : ℕ)
     → entries ≡ before ++ record { heard = heard.Command (command.Read path); faults = faults; reply = reply.Content bytes } ∷ after
     → bytes_of path (plain_of before) ≡ Some bytes
 
@@ -64,7 +64,7 @@ ReadIs plain (heard.Command (command.Read path)) (reply.Content bytes) = bytes_o
 ReadIs plain heard reply = Unit {0}
 
 -- each entry, from this namespace on
-abbrev pub ReadsFrom : Namespace → List Entry → Type 0
+abbrev pub ReadsFrom : Namespace → List Exchange → Type 0
 ReadsFrom plain [] = Unit {0}
 ReadsFrom plain (e ∷ es) = ReadIs plain e.heard e.reply × ReadsFrom (plain_step plain e.heard e.reply) es
 

@@ -8,7 +8,7 @@ use Rattle.dm_site.specs.declared.archive.Archive.{Archive}
 use Rattle.dm_site.specs.declared.session.Stop.{Stop}
 use Rattle.dm_site.specs.declared.session.Stop.TheVariants as stop
 use Rattle.dm_site.specs.State.{State, state_of, Agrees}
-use Rattle.dm_site.specs.Session.{Entry, Run, heard_of, faults_of, replies_of, plain_from, ReadsFrom, Counts}
+use Rattle.dm_site.specs.Session.{Exchange, ScriptRun, heard_of, faults_of, replies_of, plain_from, ReadsFrom, Counts}
 
 -- where a session stands: the files, the volume's image, what the sink has taken, the device's count of faults
 pub record Standing : Type 0 where
@@ -23,9 +23,9 @@ standing_of archive disk taken count = record { state = state_of archive; image 
 -- Of the input these entries were heard, and the rest is left. They were answered, but for what is missing of the
 -- last reply. Where the device tells what it holds, the reads were those of the plain namespace.
 pub record Talk (told : Bool) (old new : Standing) (input left missing : List ℕ) : Type 0 where
-  pub entries : List Entry
+  pub entries : List Exchange
   pub output : List ℕ
-  pub run : Run old.state entries new.state
+  pub run : ScriptRun old.state entries new.state
   pub consumes : Consumes input (heard_of entries) left
   pub said : output ++ missing ≡ replies_of entries
   pub took : Took old.taken new.taken output

@@ -6,8 +6,8 @@ use lib.ListN.{get_elem?}
 use Rattle.atomic_table.specs.Table.{Act, Valid, Allows, homes_after, carried_after}
 use Rattle.atomic_table.specs.Table.Act.{keeps}
 use Rattle.atomic_table.proofs.Lists.{at_set}
-use Rattle.dm_spine.specs.Past.{Meaning, Lawful, In, below, IsAbove, at_home, Made, Fits, Legal}
-use Rattle.dm_spine.specs.Rule.{sight, drawn, IsView, IsLog, KeptWith, Kept, MayDraw, Draws}
+use Rattle.dm_spine.specs.Past.{Meaning, Lawful, In, below, IsAbove, at_home, Made, MayFollow, Legal}
+use Rattle.dm_spine.specs.Rule.{sight, drawn, IsView, IsLog, CountsLog, CountsHistory, MayDraw, Draws}
 use Rattle.dm_spine.specs.Steps.{Seen, draws_as}
 use Rattle.dm_spine.specs.declared.rule.View.{View}
 use Rattle.dm_spine.proofs.Lists.{in_left, in_right, in_append, in_filter, rises_last, same_members, below_all, below-last}
@@ -96,14 +96,14 @@ module _ {S N E : Type 0} (m : Meaning S N E) (ok : Lawful m) (p : S) where
     rooted = h.rooted;
   }
 
-  legal_last : (xs : List (ℕ × E)) (n : ℕ) (e : E) → IsAbove n xs → Legal m p xs → Fits m p xs e → Legal m p (xs ++ (n, e) ∷ [])
+  legal_last : (xs : List (ℕ × E)) (n : ℕ) (e : E) → IsAbove n xs → Legal m p xs → MayFollow m p xs e → Legal m p (xs ++ (n, e) ∷ [])
   legal_last xs n e above legal fits k f t = ⊎_elim
-      (λ u. let P : List (ℕ × E) → Type 0 = λ ys. Fits m p ys f in
+      (λ u. let P : List (ℕ × E) → Type 0 = λ ys. MayFollow m p ys f in
       let l : k < n = above (k, f) u in let le : k ≤ n = omega arith in
       subst P (sym (below-last k xs (n, e) le)) (legal k f u))
       (λ u. let q : (k, f) ≡ (n, e) = in_one (k, f) (n, e) u in
-      let Q : ℕ × E → Type 0 = λ c. Fits m p (below c.0 (xs ++ (n, e) ∷ [])) c.1 in
-      let P : List (ℕ × E) → Type 0 = λ ys. Fits m p ys e in
+      let Q : ℕ × E → Type 0 = λ c. MayFollow m p (below c.0 (xs ++ (n, e) ∷ [])) c.1 in
+      let P : List (ℕ × E) → Type 0 = λ ys. MayFollow m p ys e in
       let z : ℕ × E = (n, e) in
       let le : n ≤ z.0 = omega arith in
       subst Q (sym q) (subst P (sym (below-last n xs (n, e) le ∙ below_all n xs above)) fits))
@@ -146,8 +146,8 @@ module _ {S N E : Type 0} (m : Meaning S N E) (ok : Lawful m) (p : S) where
         before x a b l about about' (inr t) (inl w) = let P : ℕ × E → Type 0 = λ c. m.about c.1 x ≡ true in h.whole x (may.keeps x (subst P (in_one a (n, e) t) about)) b w about'
         before x a b l about about' (inr t) (inr w) = let d : b.0 ≡ n = ap (λ (c : ℕ × E). c.0) (in_one b (n, e) w) in let k : a.0 ≡ n = ap (λ (c : ℕ × E). c.0) (in_one a (n, e) t) in absurd (omega arith)
 
-  kept_drawn : (log : List (ℕ × E)) (seats : List (List (View E N))) (id : ℕ) (v : View E N) (e : E) → KeptWith m p log (length log ∷ []) seats → get_elem? seats id ≡ some (v ∷ []) → MayDraw m p e v
-      → KeptWith m p (log ++ (length log, e) ∷ []) (length (log ++ (length log, e) ∷ []) ∷ []) (set seats id (drawn m (length log) e v ∷ []))
+  kept_drawn : (log : List (ℕ × E)) (seats : List (List (View E N))) (id : ℕ) (v : View E N) (e : E) → CountsLog m p log (length log ∷ []) seats → get_elem? seats id ≡ some (v ∷ []) → MayDraw m p e v
+      → CountsLog m p (log ++ (length log, e) ∷ []) (length (log ++ (length log, e) ∷ []) ∷ []) (set seats id (drawn m (length log) e v ∷ []))
   kept_drawn log seats id v e k at may =
       let n = length log in
       let z : ℕ × E = (n, e) in
@@ -204,7 +204,7 @@ module _ {S N E : Type 0} (m : Meaning S N E) (ok : Lawful m) (p : S) where
 
   -- whatever the table is when the word is counted up, the seat can go on
   pub draw_allows : (e : E) (slots id : ℕ) (me : Seen N E) (v : View E N) → me.0 ≡ v ∷ [] → me.1 ≡ [] → MayDraw m p e v
-      → Allows (Kept m p) slots id me 0 (λ n. (n + 1) % 2 ^ 64) (draws_as m (Some (p, e)) me)
+      → Allows (CountsHistory m p) slots id me 0 (λ n. (n + 1) % 2 ^ 64) (draws_as m (Some (p, e)) me)
   draw_allows e slots id me v one bare may s kept homes at low =
       let log = kept.0 in
       let k = kept.1 in
@@ -212,23 +212,23 @@ module _ {S N E : Type 0} (m : Meaning S N E) (ok : Lawful m) (p : S) where
       let z : ℕ × E = (n, e) in
       let d = drawn m n e v in
       let at' : get_elem? s.views id ≡ some (v ∷ []) = at ∙ ap (λ (t : List (View E N)). some t) one in
-      let After : List ℕ → Type 0 = λ ws. (w : List (View E N)) × (a : Act (Unit {0})) × Valid s.homes me.1 a × Kept m p record { words = slice_set ws 0 ((slice_index ws 0 + 1) % 2 ^ 64); homes = homes_after s.homes me.1 a; views = slice_set s.views id w } × draws_as m (Some (p, e)) me (slice_index ws 0) (w, carried_after me.1 a) in
-      let K : List ℕ → Type 0 = λ ws. KeptWith m p log ws s.views in
-      let k' : KeptWith m p log (n ∷ []) s.views = subst K k.word k in
+      let After : List ℕ → Type 0 = λ ws. (w : List (View E N)) × (a : Act (Unit {0})) × Valid s.homes me.1 a × CountsHistory m p record { words = slice_set ws 0 ((slice_index ws 0 + 1) % 2 ^ 64); homes = homes_after s.homes me.1 a; views = slice_set s.views id w } × draws_as m (Some (p, e)) me (slice_index ws 0) (w, carried_after me.1 a) in
+      let K : List ℕ → Type 0 = λ ws. CountsLog m p log ws s.views in
+      let k' : CountsLog m p log (n ∷ []) s.views = subst K k.word k in
       let h : IsView m p log v = k.known id (v ∷ []) v at' (inl refl) in
       let more : length (log ++ z ∷ []) ≡ n + 1 = length-append log (z ∷ []) in
       let l = short m ok p (log ++ z ∷ []) (log_more log v e k.history h may) in
       let lt : n + 1 < 2 ^ 64 = omega arith in
       let word : length (log ++ z ∷ []) ≡ (n + 1) % 2 ^ 64 = more ∙ sym (mod-eq_of_lt lt) in
-      let W : ℕ → Type 0 = λ c. KeptWith m p (log ++ z ∷ []) (c ∷ []) (set s.views id (d ∷ [])) in
+      let W : ℕ → Type 0 = λ c. CountsLog m p (log ++ z ∷ []) (c ∷ []) (set s.views id (d ∷ [])) in
       let D : List (View E N) → Type 0 = λ vs. Draws m p e (sight vs) n d in
       subst After (sym k.word) (d ∷ [], keeps, tt, (log ++ z ∷ [], subst W word (kept_drawn log s.views id v e k' at' may)), (refl, bare, subst D (sym one) (draws log v e k.history h may)))
 
   -- the same, where what is said is the entry and what the spine was begun with
   pub draw_said : (said : Option (S × E)) (slots id : ℕ) (me : Seen N E) → length me.0 ≡ 1 → me.1 ≡ [] → IsSomeAnd said (λ a. (a.0 ≡ p) × MayDraw m a.0 a.1 (sight me.0))
-      → Allows (Kept m p) slots id me 0 (λ n. (n + 1) % 2 ^ 64) (draws_as m said me)
+      → Allows (CountsHistory m p) slots id me 0 (λ n. (n + 1) % 2 ^ 64) (draws_as m said me)
   draw_said None slots id me one bare may = absurd may
   draw_said (Some a) slots id me one bare may =
       let P : S → Type 0 = λ q. MayDraw m q a.1 (sight me.0) in
-      let Q : S → Type 0 = λ q. Allows (Kept m p) slots id me 0 (λ n. (n + 1) % 2 ^ 64) (draws_as m (Some (q, a.1)) me) in
+      let Q : S → Type 0 = λ q. Allows (CountsHistory m p) slots id me 0 (λ n. (n + 1) % 2 ^ 64) (draws_as m (Some (q, a.1)) me) in
       subst Q (sym may.0) (draw_allows a.1 slots id me (sight me.0) (single_view me.0 one) bare (subst P may.0 may.1))

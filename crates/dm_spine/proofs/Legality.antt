@@ -1,7 +1,7 @@
 -- The union of two legal pasts that agree is legal.
 use Rattle.std.proofs.Common.{◌≡◌, ℕ, zero, suc, ◌+◌, ◌<◌, ◌≤◌, ◌⊎◌, true, List, [], ◌∷◌, nat_lt, slice_get, Some, refl, sym, ap, subst, inl, inr, ⊎_elim, arith}
 use Rattle.std.proofs.lemmas.Bool.{cases_lt, ltb-true}
-use Rattle.dm_spine.specs.Past.{Meaning, Lawful, In, Rises, below, union, chain, IsPart, Fits, Legal, Agree}
+use Rattle.dm_spine.specs.Past.{Meaning, Lawful, In, Rises, below, union, chain, IsPart, MayFollow, Legal, Agree}
 use Rattle.dm_spine.proofs.Lists.{in_filter, filter_in, rises_low, rises_filter, in_below, below_in, rises_union, in_union, union_left, union_right, same_filter, OneAt}
 use Rattle.dm_spine.proofs.Portions.{parts_one, same_chain}
 
@@ -98,15 +98,15 @@ module _ {S N E : Type 0} (m : Meaning S N E) where
 
   -- where each entry before n fits those before it, what is before n is legal
   pub legal_below : (p : S) (n : ℕ) (xs : List (ℕ × E)) → Rises 0 xs
-      → ((k : ℕ) (e : E) → In (k, e) xs → k < n → Fits m p (below k xs) e) → Legal m p (below n xs)
+      → ((k : ℕ) (e : E) → In (k, e) xs → k < n → MayFollow m p (below k xs) e) → Legal m p (below n xs)
   legal_below p n xs r fits k e h =
       let there = below_in n (k, e) xs h in
-      let P : List (ℕ × E) → Type 0 = λ zs. Fits m p zs e in
+      let P : List (ℕ × E) → Type 0 = λ zs. MayFollow m p zs e in
       subst P (sym (below_below k n xs r there.1)) (fits k e there.0 there.1)
 
   -- an entry that may come after xs may come after more, if nothing of its own names is among it
   pub fits_grow : (ok : Lawful m) (p : S) (xs ys : List (ℕ × E)) (e : E) → IsPart m xs ys → Legal m p xs → Legal m p ys
-      → ((x : N) → m.about e x ≡ true → chain m x ys ≡ chain m x xs) → Fits m p xs e → Fits m p ys e
+      → ((x : N) → m.about e x ≡ true → chain m x ys ≡ chain m x xs) → MayFollow m p xs e → MayFollow m p ys e
   fits_grow ok p xs ys e part legal more same h = record {
     needed = ok.needs_grow p xs ys e part legal more (λ x t. sym (same x t)) h.needed;
     followed = λ x t. let P : List (ℕ × E) → Type 0 = λ c. m.follows p x c e in subst P (sym (same x t)) (h.followed x t);
@@ -114,7 +114,7 @@ module _ {S N E : Type 0} (m : Meaning S N E) where
 
   legal_into : (ok : Lawful m) (p : S) (xs ys all : List (ℕ × E)) → Rises 0 xs → Rises 0 all → ((a : ℕ × E) → In a xs → In a all) → ((a : ℕ × E) → In a all → In a xs ⊎ In a ys)
       → ((x : N) (a b : ℕ × E) → In a xs → In b ys → b.0 < a.0 → m.about a.1 x ≡ true → m.about b.1 x ≡ true → In b xs)
-      → Legal m p xs → (n : ℕ) (e : E) → In (n, e) xs → Legal m p (below n all) → Fits m p (below n all) e
+      → Legal m p xs → (n : ℕ) (e : E) → In (n, e) xs → Legal m p (below n all) → MayFollow m p (below n all) e
   legal_into ok p xs ys all r s f parted closed legal n e h before =
       let known : (x : N) (a b : ℕ × E) → In a xs → In b all → b.0 < a.0 → m.about a.1 x ≡ true → m.about b.1 x ≡ true → In b xs
       = λ x a b t k l u v. ⊎_elim (λ w. w) (λ w. closed x a b t w l u v) (parted b k) in
@@ -134,7 +134,7 @@ module _ {S N E : Type 0} (m : Meaning S N E) where
 
   -- by induction on a number above: each entry of the union fits, since those before it do
   union_fits : (ok : Lawful m) (p : S) (xs ys : List (ℕ × E)) → Rises 0 xs → Rises 0 ys → Meets xs ys → Legal m p xs → Legal m p ys
-      → (high n : ℕ) (e : E) → In (n, e) (union xs ys) → n < high → Fits m p (below n (union xs ys)) e
+      → (high n : ℕ) (e : E) → In (n, e) (union xs ys) → n < high → MayFollow m p (below n (union xs ys)) e
   union_fits ok p xs ys r s meets l k zero n e h less = absurd (omega arith)
   union_fits ok p xs ys r s meets l k (suc high) n e h less =
       let u = rises_union 0 xs ys r s in

@@ -6,7 +6,7 @@ use Rattle.atomic_table.specs.Table.{Act, Valid, Allows, Splits, Joins, opening,
 use Rattle.atomic_table.specs.Table.Act.{keeps}
 use Rattle.atomic_table.proofs.Lists.{at_set, set_else, set_again}
 use Rattle.dm_spine.specs.Past.{Meaning, Lawful, In, union, Made, Legal}
-use Rattle.dm_spine.specs.Rule.{view, sight, joined, without, IsView, IsLog, IsSound, KeptWith, Kept, Together}
+use Rattle.dm_spine.specs.Rule.{view, sight, joined, without, IsView, IsLog, IsSound, CountsLog, CountsHistory, Together}
 use Rattle.dm_spine.specs.Steps.{Seen, cut_left, cut_right, settles_as, looks_as}
 use Rattle.dm_spine.specs.declared.rule.View.{View}
 use Rattle.dm_spine.proofs.Lists.{in_append, union_left, union_right}
@@ -20,7 +20,7 @@ module _ {S N E : Type 0} (m : Meaning S N E) (ok : Lawful m) (p : S) where
   none_known (suc i) a b e = absurd (some-ne-none b (sym e))
 
   -- the table as it is begun
-  pub kept_first : Kept m p (opening {S = Unit {0}} {V = List (View E N)} (0 ∷ []) [] (view [] (m.fixed p) ∷ []))
+  pub kept_first : CountsHistory m p (opening {S = Unit {0}} {V = List (View E N)} (0 ∷ []) [] (view [] (m.fixed p) ∷ []))
   kept_first = (
     [],
     record {
@@ -51,8 +51,8 @@ module _ {S N E : Type 0} (m : Meaning S N E) (ok : Lawful m) (p : S) where
     }
 
   -- a seat's views change, and no view keeps more than some view of that seat did
-  kept_set : (log : List (ℕ × E)) (words : List ℕ) (seats : List (List (View E N))) (id : ℕ) (old new : List (View E N)) → length new ≡ 1 → KeptWith m p log words seats → get_elem? seats id ≡ some old
-      → ((u : View E N) → In u new → IsView m p log u) → ((u : View E N) (x : N) → In u new → In x u.keeps → (o : View E N) × In o old × In x o.keeps) → KeptWith m p log words (set seats id new)
+  kept_set : (log : List (ℕ × E)) (words : List ℕ) (seats : List (List (View E N))) (id : ℕ) (old new : List (View E N)) → length new ≡ 1 → CountsLog m p log words seats → get_elem? seats id ≡ some old
+      → ((u : View E N) → In u new → IsView m p log u) → ((u : View E N) (x : N) → In u new → In x u.keeps → (o : View E N) × In o old × In x o.keeps) → CountsLog m p log words (set seats id new)
   kept_set log words seats id old new single k at fine from =
       let inside : (vs : List (View E N)) (u : View E N) → new ≡ vs → In u vs → In u new = λ vs u q t. let P : List (View E N) → Type 0 = λ ws. In u ws in subst P (sym q) t in
       record {
@@ -76,15 +76,15 @@ module _ {S N E : Type 0} (m : Meaning S N E) (ok : Lawful m) (p : S) where
       }
 
   -- names go over to a new seat
-  kept_cut : (log : List (ℕ × E)) (words : List ℕ) (seats : List (List (View E N))) (id : ℕ) (v : View E N) (names : List N) → KeptWith m p log words seats → get_elem? seats id ≡ some (v ∷ [])
-      → ((x : N) → In x names → In x v.keeps) → KeptWith m p log words (set seats id (view v.seen (without m names v.keeps) ∷ []) ++ (view v.seen names ∷ []) ∷ [])
+  kept_cut : (log : List (ℕ × E)) (words : List ℕ) (seats : List (List (View E N))) (id : ℕ) (v : View E N) (names : List N) → CountsLog m p log words seats → get_elem? seats id ≡ some (v ∷ [])
+      → ((x : N) → In x names → In x v.keeps) → CountsLog m p log words (set seats id (view v.seen (without m names v.keeps) ∷ []) ++ (view v.seen names ∷ []) ∷ [])
   kept_cut log words seats id v names k at own =
       let h = k.known id (v ∷ []) v at (inl refl) in
       let left = view v.seen (without m names v.keeps) in
       let right = view v.seen names in
       let fewer : (x : N) → In x left.keeps → In x v.keeps × (In x names → ⊥) = λ x t. in_without ok x names v.keeps t in
       let seats' = set seats id (left ∷ []) in
-      let k' : KeptWith m p log words seats' = kept_set log words seats id (v ∷ []) (left ∷ []) refl k at
+      let k' : CountsLog m p log words seats' = kept_set log words seats id (v ∷ []) (left ∷ []) refl k at
       (λ u t. let Q : View E N → Type 0 = λ y. IsView m p log y in subst Q (sym (in_one u left t)) (view_fewer ok p log v left.keeps (λ x o. (fewer x o).0) h))
       (λ u x t o. let P : View E N → Type 0 = λ y. In x y.keeps in (v, inl refl, (fewer x (subst P (in_one u left t) o)).0)) in
       let is_right : (vs : List (View E N)) (u : View E N) → right ∷ [] ≡ vs → In u vs → u ≡ right = λ vs u q t. let P : List (View E N) → Type 0 = λ ws. In u ws in in_one u right (subst P (sym q) t) in
@@ -118,13 +118,13 @@ module _ {S N E : Type 0} (m : Meaning S N E) (ok : Lawful m) (p : S) where
         pair = λ i u w x t oi oj. ⊎_elim (λ a. k'.pair i u w x a oi oj) (λ a. not_two right u w a.1) (at_end seats' (right ∷ []) (u ∷ (w ∷ [])) i t);
       }
 
-  cut_some : (names : List N) (id : ℕ) (v : View E N) → ((x : N) → In x names → In x v.keeps) → Splits (Kept m p) id (v ∷ []) (cut_left m (Some names) (v ∷ [])) (cut_right (Some names) (v ∷ []))
+  cut_some : (names : List N) (id : ℕ) (v : View E N) → ((x : N) → In x names → In x v.keeps) → Splits (CountsHistory m p) id (v ∷ []) (cut_left m (Some names) (v ∷ [])) (cut_right (Some names) (v ∷ []))
   cut_some names id v own s kept at = (kept.0, kept_cut kept.0 s.words s.views id v names kept.1 at own)
 
-  pub cut_said : (said : Option (List N)) (id : ℕ) (vs : List (View E N)) → length vs ≡ 1 → IsSomeAnd said (λ names. (x : N) → In x names → In x (sight vs).keeps) → Splits (Kept m p) id vs (cut_left m said vs) (cut_right said vs)
+  pub cut_said : (said : Option (List N)) (id : ℕ) (vs : List (View E N)) → length vs ≡ 1 → IsSomeAnd said (λ names. (x : N) → In x names → In x (sight vs).keeps) → Splits (CountsHistory m p) id vs (cut_left m said vs) (cut_right said vs)
   cut_said None id vs one own = absurd own
   cut_said (Some names) id vs one own =
-      let P : List (View E N) → Type 0 = λ ws. Splits (Kept m p) id ws (cut_left m (Some names) ws) (cut_right (Some names) ws) in
+      let P : List (View E N) → Type 0 = λ ws. Splits (CountsHistory m p) id ws (cut_left m (Some names) ws) (cut_right (Some names) ws) in
       subst P (sym (single_view vs one)) (cut_some names id (sight vs) own)
 
   -- where a view of the seats after a join was before it
@@ -160,7 +160,7 @@ module _ {S N E : Type 0} (m : Meaning S N E) (ok : Lawful m) (p : S) where
   second (x ∷ []) = view [] []
   second (x ∷ (y ∷ ys)) = y
 
-  joins_two : (id other : ℕ) (v' w' : View E N) → Joins (Kept m p) id (v' ∷ []) other (w' ∷ []) (v' ∷ (w' ∷ [])) []
+  joins_two : (id other : ℕ) (v' w' : View E N) → Joins (CountsHistory m p) id (v' ∷ []) other (w' ∷ []) (v' ∷ (w' ∷ [])) []
   joins_two id other v' w' s kept at ne at' =
       let v : List (View E N) = v' ∷ [] in
       let w : List (View E N) = w' ∷ [] in
@@ -192,10 +192,10 @@ module _ {S N E : Type 0} (m : Meaning S N E) (ok : Lawful m) (p : S) where
       )
 
   -- a seat takes in the view of another
-  pub joins_said : (id other : ℕ) (v w : List (View E N)) → length v ≡ 1 → length w ≡ 1 → Joins (Kept m p) id v other w (v ++ w) []
+  pub joins_said : (id other : ℕ) (v w : List (View E N)) → length v ≡ 1 → length w ≡ 1 → Joins (CountsHistory m p) id v other w (v ++ w) []
   joins_said id other v w one single =
-      let P : List (View E N) → Type 0 = λ t. Joins (Kept m p) id t other w (t ++ w) [] in
-      let Q : List (View E N) → Type 0 = λ t. Joins (Kept m p) id (sight v ∷ []) other t ((sight v ∷ []) ++ t) [] in
+      let P : List (View E N) → Type 0 = λ t. Joins (CountsHistory m p) id t other w (t ++ w) [] in
+      let Q : List (View E N) → Type 0 = λ t. Joins (CountsHistory m p) id (sight v ∷ []) other t ((sight v ∷ []) ++ t) [] in
       subst P (sym (single_view v one)) (subst Q (sym (single_view w single)) (joins_two id other (sight v) (sight w)))
 
   root_more : (x : N) (xs ys : List (ℕ × E)) → ((a : ℕ × E) → In a xs → In a ys) → In x (m.fixed p) ⊎ Made m x xs → In x (m.fixed p) ⊎ Made m x ys
@@ -236,18 +236,18 @@ module _ {S N E : Type 0} (m : Meaning S N E) (ok : Lawful m) (p : S) where
         sound = sound_view m p log (joined v w) all;
       }
 
-  settle_some : (slots id : ℕ) (me : Seen N E) (v w : View E N) → me.0 ≡ v ∷ (w ∷ []) → me.1 ≡ [] → Allows (Kept m p) slots id me 0 (λ n. n) (λ _. settles_as m (Some p) me)
+  settle_some : (slots id : ℕ) (me : Seen N E) (v w : View E N) → me.0 ≡ v ∷ (w ∷ []) → me.1 ≡ [] → Allows (CountsHistory m p) slots id me 0 (λ n. n) (λ _. settles_as m (Some p) me)
   settle_some slots id me v w two bare s kept homes at low =
       let log = kept.0 in
       let k = kept.1 in
       let at' : get_elem? s.views id ≡ some (v ∷ (w ∷ [])) = at ∙ ap (λ (t : List (View E N)). some t) two in
       let h = k.known id (v ∷ (w ∷ [])) v at' (inl refl) in
       let h' = k.known id (v ∷ (w ∷ [])) w at' (inr (inl refl)) in
-      let K : List ℕ → Type 0 = λ ws. KeptWith m p log ws s.views in
-      let k' : KeptWith m p log (length log ∷ []) s.views = subst K k.word k in
-      let After : List ℕ → Type 0 = λ ws. (z : List (View E N)) × (a : Act (Unit {0})) × Valid s.homes me.1 a × Kept m p record { words = slice_set ws 0 (slice_index ws 0); homes = homes_after s.homes me.1 a; views = slice_set s.views id z } × settles_as m (Some p) me (z, carried_after me.1 a) in
+      let K : List ℕ → Type 0 = λ ws. CountsLog m p log ws s.views in
+      let k' : CountsLog m p log (length log ∷ []) s.views = subst K k.word k in
+      let After : List ℕ → Type 0 = λ ws. (z : List (View E N)) × (a : Act (Unit {0})) × Valid s.homes me.1 a × CountsHistory m p record { words = slice_set ws 0 (slice_index ws 0); homes = homes_after s.homes me.1 a; views = slice_set s.views id z } × settles_as m (Some p) me (z, carried_after me.1 a) in
       let j = joined v w in
-      let set_kept : KeptWith m p log (length log ∷ []) (set s.views id (j ∷ [])) = kept_set log (length log ∷ []) s.views id (v ∷ (w ∷ [])) (j ∷ []) refl k' at'
+      let set_kept : CountsLog m p log (length log ∷ []) (set s.views id (j ∷ [])) = kept_set log (length log ∷ []) s.views id (v ∷ (w ∷ [])) (j ∷ []) refl k' at'
       (λ u t. let Q : View E N → Type 0 = λ y. IsView m p log y in subst Q (sym (in_one u j t)) (view_joined log v w k.history h h'))
       (λ u x t o. let P : View E N → Type 0 = λ y. In x y.keeps in ⊎_elim (λ f. (v, inl refl, f)) (λ f. (w, inr (inl refl), f)) (in_append x v.keeps w.keeps (subst P (in_one u j t) o))) in
       let tells : (v' u : View E N) → me.0 ≡ v' ∷ (u ∷ []) → (j ∷ [] ≡ joined v' u ∷ []) × (me.1 ≡ []) × Together m p v' u
@@ -267,10 +267,10 @@ module _ {S N E : Type 0} (m : Meaning S N E) (ok : Lawful m) (p : S) where
       let R : List (View E N) → Type 0 = λ t. me.0 ≡ (sight v ∷ []) ++ t in
       subst R (single_view w other) (subst P (single_view v one) (ap (λ (t : Seen N E). t.0) both))
 
-  pub settle_said : (said : Option S) (slots id : ℕ) (me : Seen N E) (v w : List (View E N)) (old : List (ℕ × Unit {0})) → me ≡ (v ++ w, old) → length v ≡ 1 → length w ≡ 1 → old ≡ [] → IsSomeAnd said (λ q. q ≡ p) → Allows (Kept m p) slots id me 0 (λ n. n) (λ _. settles_as m said me)
+  pub settle_said : (said : Option S) (slots id : ℕ) (me : Seen N E) (v w : List (View E N)) (old : List (ℕ × Unit {0})) → me ≡ (v ++ w, old) → length v ≡ 1 → length w ≡ 1 → old ≡ [] → IsSomeAnd said (λ q. q ≡ p) → Allows (CountsHistory m p) slots id me 0 (λ n. n) (λ _. settles_as m said me)
   settle_said None slots id me v w old both one other bare is = absurd is
   settle_said (Some q) slots id me v w old both one other bare is =
-      let Q : S → Type 0 = λ r. Allows (Kept m p) slots id me 0 (λ n. n) (λ _. settles_as m (Some r) me) in
+      let Q : S → Type 0 = λ r. Allows (CountsHistory m p) slots id me 0 (λ n. n) (λ _. settles_as m (Some r) me) in
       subst Q (sym is) (settle_some slots id me (sight v) (sight w) (both_views me v w old both one other) (ap (λ (t : Seen N E). t.1) both ∙ bare))
 
   -- after a join the seat has one view again
@@ -280,22 +280,22 @@ module _ {S N E : Type 0} (m : Meaning S N E) (ok : Lawful m) (p : S) where
       let t = told (sight v) (sight w) (both_views me v w old both one other) in
       (t.1, ap length t.0)
 
-  look_some : (slots id : ℕ) (me : Seen N E) (v : View E N) → me.0 ≡ v ∷ [] → Allows (Kept m p) slots id me 0 (λ n. n) (λ _. looks_as m (Some p) me)
+  look_some : (slots id : ℕ) (me : Seen N E) (v : View E N) → me.0 ≡ v ∷ [] → Allows (CountsHistory m p) slots id me 0 (λ n. n) (λ _. looks_as m (Some p) me)
   look_some slots id me v one s kept homes at low =
       let log = kept.0 in
       let k = kept.1 in
       let at' : get_elem? s.views id ≡ some (v ∷ []) = at ∙ ap (λ (t : List (View E N)). some t) one in
       let h = k.known id (v ∷ []) v at' (inl refl) in
-      let K : List ℕ → Type 0 = λ ws. KeptWith m p log ws s.views in
-      let k' : KeptWith m p log (length log ∷ []) s.views = subst K k.word k in
-      let After : List ℕ → Type 0 = λ ws. (z : List (View E N)) × (a : Act (Unit {0})) × Valid s.homes me.1 a × Kept m p record { words = slice_set ws 0 (slice_index ws 0); homes = homes_after s.homes me.1 a; views = slice_set s.views id z } × looks_as m (Some p) me (z, carried_after me.1 a) in
-      let C : List (List (View E N)) → Type 0 = λ vs. KeptWith m p log (length log ∷ []) vs in
+      let K : List ℕ → Type 0 = λ ws. CountsLog m p log ws s.views in
+      let k' : CountsLog m p log (length log ∷ []) s.views = subst K k.word k in
+      let After : List ℕ → Type 0 = λ ws. (z : List (View E N)) × (a : Act (Unit {0})) × Valid s.homes me.1 a × CountsHistory m p record { words = slice_set ws 0 (slice_index ws 0); homes = homes_after s.homes me.1 a; views = slice_set s.views id z } × looks_as m (Some p) me (z, carried_after me.1 a) in
+      let C : List (List (View E N)) → Type 0 = λ vs. CountsLog m p log (length log ∷ []) vs in
       let L : List (View E N) → Type 0 = λ vs. Legal m p (sight vs).seen in
       let G : List (View E N) → Type 0 = λ vs. IsSound m p (sight vs) in
       subst After (sym k.word) (me.0, keeps, tt, (log, subst C (sym (set_again s.views id me.0 at)) k'), (refl, subst L (sym one) h.legal, subst G (sym one) (sound_view m p log v h)))
 
-  pub look_said : (said : Option S) (slots id : ℕ) (me : Seen N E) → length me.0 ≡ 1 → IsSomeAnd said (λ q. q ≡ p) → Allows (Kept m p) slots id me 0 (λ n. n) (λ _. looks_as m said me)
+  pub look_said : (said : Option S) (slots id : ℕ) (me : Seen N E) → length me.0 ≡ 1 → IsSomeAnd said (λ q. q ≡ p) → Allows (CountsHistory m p) slots id me 0 (λ n. n) (λ _. looks_as m said me)
   look_said None slots id me one is = absurd is
   look_said (Some q) slots id me one is =
-      let Q : S → Type 0 = λ r. Allows (Kept m p) slots id me 0 (λ n. n) (λ _. looks_as m (Some r) me) in
+      let Q : S → Type 0 = λ r. Allows (CountsHistory m p) slots id me 0 (λ n. n) (λ _. looks_as m (Some r) me) in
       subst Q (sym is) (look_some slots id me (sight me.0) (single_view me.0 one))

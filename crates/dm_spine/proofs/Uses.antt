@@ -2,7 +2,7 @@
 use Rattle.std.proofs.Common.{◌≡◌, ℕ, zero, suc, ◌+◌, ◌<◌, ◌≤◌, ◌⊎◌, Bool, true, false, not, cond, List, [], ◌∷◌, ◌++◌, length, filter, Some, refl, sym, ap, ◌∙◌, subst, inl, inr, ⊎_elim, arith}
 use Rattle.std.proofs.lemmas.Bool.{true≢false, not_from_false, false_from_ne_true}
 use Rattle.std.proofs.lemmas.List.Elements.{filter-append}
-use Rattle.dm_spine.specs.Past.{Meaning, Lawful, In, Rises, has, chain, at_home, union, IsPart, Fits, Legal, Agree}
+use Rattle.dm_spine.specs.Past.{Meaning, Lawful, In, Rises, has, chain, at_home, union, IsPart, MayFollow, Legal, Agree}
 use Rattle.dm_spine.specs.Rule.{IsSound, Draws, Together, Gives}
 use Rattle.dm_spine.specs.Passes.{parts_of, spine_parts, IsBeside, IsOn}
 use Rattle.dm_spine.specs.declared.rule.View.{View}
@@ -70,9 +70,9 @@ module _ {S N E : Type 0} (m : Meaning S N E) where
     some_same a b e = cc
 
   -- in a legal past, sorted by the numbers, each entry may come after the entries before it
-  pub fits_run : (p : S) (n : ℕ) (ys zs : List (ℕ × E)) (e : E) → Rises 0 (ys ++ (n, e) ∷ zs) → Legal m p (ys ++ (n, e) ∷ zs) → Fits m p ys e
+  pub fits_run : (p : S) (n : ℕ) (ys zs : List (ℕ × E)) (e : E) → Rises 0 (ys ++ (n, e) ∷ zs) → Legal m p (ys ++ (n, e) ∷ zs) → MayFollow m p ys e
   fits_run p n ys zs e r legal =
-      let P : List (ℕ × E) → Type 0 = λ xs. Fits m p xs e in
+      let P : List (ℕ × E) → Type 0 = λ xs. MayFollow m p xs e in
       subst P (below_front ys zs (n, e) r) (legal n e (in_right (n, e) ys ((n, e) ∷ zs) (inl refl)))
 
 module _ {S N E : Type 0} {m : Meaning S N E} {p : S} {v w : View E N} (t : Together m p v w) where

@@ -76,13 +76,13 @@ module _ {S N E : Type 0} (m : Meaning S N E) where
         → m.about a.1 x ≡ true → m.about b.1 x ≡ true → In b xs
 
   -- the entry may come after the entries xs
-  pub record Fits (p : S) (xs : List (ℕ × E)) (e : E) : Type 0 where
+  pub record MayFollow (p : S) (xs : List (ℕ × E)) (e : E) : Type 0 where
     pub needed : m.needs p xs e
     pub followed : (x : N) → m.about e x ≡ true → m.follows p x (chain x xs) e
 
   -- each entry may come after those before it
   abbrev pub Legal : S → List (ℕ × E) → Type 0
-  Legal p xs = (n : ℕ) (e : E) → In (n, e) xs → Fits p (below n xs) e
+  Legal p xs = (n : ℕ) (e : E) → In (n, e) xs → MayFollow p (below n xs) e
 
   -- one entry at each number, and one entry at each place of each name's chain
   pub record Agree (xs ys : List (ℕ × E)) : Type 0 where

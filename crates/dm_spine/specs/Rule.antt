@@ -4,7 +4,7 @@ use mathlib.Core.Option.{some}
 use lib.ListN.{get_elem?}
 use Rattle.atomic_table.specs.Table.{State, Me}
 use Rattle.atomic_table.specs.Seated.{TableId}
-use Rattle.dm_spine.specs.Past.{Meaning, In, Rises, IsAbove, has, chain, at_home, union, Made, IsPart, Fits, Legal}
+use Rattle.dm_spine.specs.Past.{Meaning, In, Rises, IsAbove, has, chain, at_home, union, Made, IsPart, MayFollow, Legal}
 use Rattle.dm_spine.specs.declared.rule.View.{View}
 
 module _ {E N : Type 0} where
@@ -48,7 +48,7 @@ module _ {S N E : Type 0} (m : Meaning S N E) where
     pub grown : (a : ℕ × E) (x : N) → In a log → m.about a.1 x ≡ true → In x (m.fixed p) ⊎ Made m x log
 
   -- The word counts the history log. A seat has one view, two while a join is under way, and none when it is spent
-  pub record KeptWith (p : S) (log : List (ℕ × E)) (words : List ℕ) (seats : List (List (View E N))) : Type 0 where
+  pub record CountsLog (p : S) (log : List (ℕ × E)) (words : List ℕ) (seats : List (List (View E N))) : Type 0 where
     pub word : words ≡ length log ∷ []
     pub history : IsLog p log
     pub known : (i : ℕ) (vs : List (View E N)) (v : View E N) → get_elem? seats i ≡ some vs → In v vs → IsView p log v
@@ -59,8 +59,8 @@ module _ {S N E : Type 0} (m : Meaning S N E) where
     pub pair : (i : ℕ) (v w : View E N) (x : N) → get_elem? seats i ≡ some (v ∷ (w ∷ [])) → In x v.keeps → In x w.keeps → ⊥
 
   -- the rule: there is a whole history that the word counts, and of which each pass knows a part
-  abbrev pub Kept : S → State (Unit {0}) (List (View E N)) → Type 0
-  Kept p s = (log : List (ℕ × E)) × KeptWith p log s.words s.views
+  abbrev pub CountsHistory : S → State (Unit {0}) (List (View E N)) → Type 0
+  CountsHistory p s = (log : List (ℕ × E)) × CountsLog p log s.words s.views
 
   -- what every pass knows of its own past and names
   pub record IsSound (p : S) (v : View E N) : Type 0 where
@@ -73,7 +73,7 @@ module _ {S N E : Type 0} (m : Meaning S N E) where
     pub keeps : (x : N) → m.about e x ≡ true → In x v.keeps
     -- whichever number it will get
     pub fresh : (n : ℕ) (x : N) → IsAbove n v.seen → In x (m.makes n e) → Made m x v.seen → ⊥
-    pub fits : Fits m p v.seen e
+    pub fits : MayFollow m p v.seen e
     pub room : at_home m (m.home e) v.seen < 281474976710656
 
   -- the entry was drawn under the number n

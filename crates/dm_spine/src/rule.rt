@@ -1,6 +1,6 @@
 //! The rule of the spine's one word, and what a pass knows.
 ghost use Rattle.std.specs.Prelude.{[], ◌∷◌, None, Option};
-ghost use Rattle.dm_spine.specs.Rule.{Kept, view};
+ghost use Rattle.dm_spine.specs.Rule.{CountsHistory, view};
 
 use crate::parts::Parts;
 use atomic_table::{Table, TableRule};
@@ -26,7 +26,7 @@ pub(crate) struct Ruled<P: Parts> {
 pub(crate) type Rows<P> = Table<(), Sight<P>, P, Ruled<P>, Global>;
 
 impl<P: Parts> TableRule<(), LinkedList<View<P::Entry, P::Name>>, P> for Ruled<P> {
-    ghost holds = { Kept P.meaning };
+    ghost holds = { CountsHistory P.meaning };
 
     ghost first = { λ p. view [] (P.meaning.fixed p) ∷ [] };
 }

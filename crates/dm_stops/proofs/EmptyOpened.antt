@@ -27,7 +27,7 @@ use Rattle.dm_model.specs.declared.state.Image.{Image}
 use Rattle.dm_model.specs.declared.state.Side.{Side}
 use Rattle.dm_invariant.specs.Among.{IsAmong}
 use Rattle.dm_invariant.specs.Kept.{committed_in, deleted_in}
-use Rattle.dm_invariant.specs.Opened.{Fits, Opened, SideOpened}
+use Rattle.dm_invariant.specs.Opened.{IsAsConfigured, Opened, SideOpened}
 use Rattle.dm_invariant.specs.Places.{HasPlace, Live, Reserving, Target, Doubted, Owner}
 use Rattle.dm_invariant.specs.Sound.{GroupSound, Sound}
 use Rattle.dm_invariant.specs.Volumes.{ConfFits, HasImage, IsNumberOf}
@@ -171,7 +171,7 @@ number_new : (conf : DaemonConf) (groups : List GroupConf) → FirstConf conf gr
 number_new conf groups f g c among number =
     record { same = number; fits = subst (λ n. IsGroupNumber n) number (f.groups_fit c among).group }
 
-empty_fits : (conf : DaemonConf) (groups : List GroupConf) → FirstConf conf groups → Fits (empty_joint conf groups)
+empty_fits : (conf : DaemonConf) (groups : List GroupConf) → FirstConf conf groups → IsAsConfigured (empty_joint conf groups)
 empty_fits conf groups f = record {
   entries = each-empty nat_cmp _;
   sides = λ g s is.

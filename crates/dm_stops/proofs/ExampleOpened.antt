@@ -26,7 +26,7 @@ use Rattle.dm_durable.specs.Dumps.{bytes_kept, dump_size, is_young}
 use Rattle.dm_durable.specs.Entries.{groups_asked}
 use Rattle.dm_durable.specs.Inodes.{is_making, is_named, length_of}
 use Rattle.dm_durable.specs.Group.{is_on}
-use Rattle.dm_durable.specs.Tables.{Named, same_text}
+use Rattle.dm_durable.specs.Tables.{ByName, same_text}
 use Rattle.dm_durable.specs.Volumes.{is_sparse_in, tip_or, weight_on}
 use Rattle.std.specs.List.{filter}
 use Rattle.dm_model.specs.declared.state.Mounted.{Mounted}
@@ -37,7 +37,7 @@ use Rattle.dm_model.specs.declared.state.Side.{Side}
 use Rattle.dm_invariant.specs.Doubts.{AllConfigured}
 use Rattle.dm_invariant.specs.Files.{DumpedRightly, DumpsKept, HeldRightly, NamedWhole}
 use Rattle.dm_invariant.specs.Kept.{committed_in, deleted_in}
-use Rattle.dm_invariant.specs.Opened.{Fits, Opened, SideOpened}
+use Rattle.dm_invariant.specs.Opened.{IsAsConfigured, Opened, SideOpened}
 use Rattle.dm_invariant.specs.Sound.{GroupSound, Sound}
 use Rattle.dm_invariant.specs.Volumes.{IsNumberOf}
 use Rattle.dm_invariant.proofs.Counts.{counted_insert}
@@ -140,8 +140,8 @@ long e is = ap (λ (x : Entry). x.len) (sym (same_row (map.get entries bitfile.0
 
 few_names : map.len names ≤ 3
 few_names =
-    let one : Named Ino = map.insert map.empty (path_of 1) (record { 0 = 1 }) in
-    let two : Named Ino = map.insert one (path_of 2) (record { 0 = 2 }) in
+    let one : ByName Ino = map.insert map.empty (path_of 1) (record { 0 = 1 }) in
+    let two : ByName Ino = map.insert one (path_of 2) (record { 0 = 2 }) in
     let none = map.len-empty (slice_cmp nat_cmp) Ino in
     let first = counted_insert {X = Ino} paths map.empty (path_of 1) (record { 0 = 1 }) in
     let second = counted_insert {X = Ino} paths one (path_of 2) (record { 0 = 2 }) in
@@ -307,7 +307,7 @@ configured g (inl same) = subst (λ (x : GroupId). IsSome (map.get example.sides
 configured g (inr (inl same)) = subst (λ (x : GroupId). IsSome (map.get example.sides x.0)) (sym same) (ap is_some side_2)
 configured g (inr (inr none)) = absurd none
 
-example_fits : Fits example
+example_fits : IsAsConfigured example
 example_fits = record {
   entries = each_entry (λ b e. AllConfigured example.sides (groups_asked e)) configured;
   sides = each_side (λ g s. IsNumberOf g s.group.tables.group.0) (number 1 first_vsn first_volume 144 None right_first)

@@ -15,7 +15,7 @@ use Rattle.dm_durable.specs.declared.daemon.DaemonStep.TheVariants.{Restart}
 use Rattle.dm_durable.specs.declared.daemon.DaemonTables.{DaemonTables}
 use Rattle.dm_durable.specs.declared.daemon.Entry.{Entry}
 use Rattle.dm_durable.specs.declared.daemon.Inode.{Inode}
-use Rattle.dm_durable.specs.Tables.{Numbered}
+use Rattle.dm_durable.specs.Tables.{ByNumber}
 use Rattle.dm_durable.specs.Daemon.{after_ending_puts, after_record}
 use Rattle.dm_durable.specs.Entries.{with_deletion_time}
 use Rattle.dm_durable.specs.Inodes.{as_ended, bitfile_made, bitfile_of, has_making, is_bitfile, is_made, is_making, is_named, length_of, with_contents}
@@ -46,15 +46,15 @@ none_making (Making bytes b) = refl
 none_making (Dual bytes b) = refl
 none_making (Offline len b) = refl
 
-abbrev pub Over : Numbered Inode → Numbered Inode
+abbrev pub Over : ByNumber Inode → ByNumber Inode
 Over inodes = map_values (λ n i. with_contents (as_ended false) i) inodes
 
-pub ended_all : (inodes : Numbered Inode) → has_making (Over inodes) ≡ false
+pub ended_all : (inodes : ByNumber Inode) → has_making (Over inodes) ≡ false
 ended_all inodes =
     any-none (λ n i. is_making i.contents) (Over inodes)
     (each-map numbers (λ n i. is_making i.contents ≡ false) (λ n i. with_contents (as_ended false) i) inodes (λ n i is. none_making i.contents))
 
-still_unnamed : (inodes : Numbered Inode) (b : ℕ) → is_made inodes b ≡ false → is_named (Over inodes) b ≡ false → is_named inodes b ≡ false
+still_unnamed : (inodes : ByNumber Inode) (b : ℕ) → is_made inodes b ≡ false → is_named (Over inodes) b ≡ false → is_named inodes b ≡ false
 still_unnamed inodes b unmade unnamed =
     let made = any-false numbers (λ n i. is_bitfile b (bitfile_made i.contents)) inodes unmade in
     let named = any-false numbers (λ n i. is_bitfile b (bitfile_of i.contents)) (Over inodes) unnamed in
@@ -88,9 +88,9 @@ gone_over true false time e none was = refl
 gone_over true true time e none was = cc
 gone_over false named time e none was = was refl
 
-module _ (t : DaemonTables) (contents : Numbered (List ℕ)) (cap : ℕ) (sides : Numbered Side) (requests : Numbered OpenRequest) (time : ℕ)
+module _ (t : DaemonTables) (contents : ByNumber (List ℕ)) (cap : ℕ) (sides : ByNumber Side) (requests : ByNumber OpenRequest) (time : ℕ)
     (k : FilesKept t contents cap) (on : t.time.0 ≤ time) where
-  abbrev pub Entries : Numbered Entry
+  abbrev pub Entries : ByNumber Entry
   Entries = after_ending_puts t.entries t.inodes (Over t.inodes) time
 
   abbrev lets_go : ℕ → Bool

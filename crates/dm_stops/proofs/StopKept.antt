@@ -11,7 +11,7 @@ use Rattle.dm_durable.specs.declared.daemon.DaemonStep.TheVariants.{Restart}
 use Rattle.dm_durable.specs.declared.daemon.DaemonTables.{DaemonTables}
 use Rattle.dm_durable.specs.declared.daemon.Entry.{Entry}
 use Rattle.dm_durable.specs.declared.daemon.Inode.{Inode}
-use Rattle.dm_durable.specs.Tables.{Numbered}
+use Rattle.dm_durable.specs.Tables.{ByNumber}
 use Rattle.dm_durable.specs.Daemon.{after_record, after_stop}
 use Rattle.dm_durable.specs.Entries.{groups_asked}
 use Rattle.dm_durable.specs.Inodes.{has_making}
@@ -74,7 +74,7 @@ module _ (j : Joint) (k : InvariantHolds j) where
 
 -- ---- what is open
 
-requests_none : (inodes : Numbered Inode) (entries : Numbered Entry) (contents : Numbered (List ℕ)) → RequestsKept map.empty 0 inodes entries contents
+requests_none : (inodes : ByNumber Inode) (entries : ByNumber Entry) (contents : ByNumber (List ℕ)) → RequestsKept map.empty 0 inodes entries contents
 requests_none inodes entries contents = record {
   numbers = each-empty nat_cmp _;
   entry = each-empty nat_cmp _;
@@ -84,7 +84,7 @@ requests_none inodes entries contents = record {
   puts_apart = λ k l r s is other a b same. absurd (none_in_empty nat_cmp map.empty k r refl is);
 }
 
-recalls_none : (requests : Numbered OpenRequest) (entries : Numbered Entry) (contents : Numbered (List ℕ)) → RecallsKept map.empty requests entries contents
+recalls_none : (requests : ByNumber OpenRequest) (entries : ByNumber Entry) (contents : ByNumber (List ℕ)) → RecallsKept map.empty requests entries contents
 recalls_none requests entries contents = record {
   kept = each-empty nat_cmp _;
   apart = λ v w k x y r s is other a b. absurd (none_in_empty nat_cmp map.empty v x refl is);
@@ -92,10 +92,10 @@ recalls_none requests entries contents = record {
 
 -- ---- groups
 
-abbrev SidesLeft : Numbered Side → Numbered Side
+abbrev SidesLeft : ByNumber Side → ByNumber Side
 SidesLeft sides = map_values (λ g. side_after_stop) sides
 
-still_configured : (sides : Numbered Side) (groups : List GroupId) → AllConfigured sides groups → AllConfigured (SidesLeft sides) groups
+still_configured : (sides : ByNumber Side) (groups : List GroupId) → AllConfigured sides groups → AllConfigured (SidesLeft sides) groups
 still_configured sides groups all = λ g among.
     there_as _ _ (sym (get-mapped numbers (λ g. side_after_stop) sides g.0)) (mapped_value side_after_stop (map.get sides g.0) (all g among))
 

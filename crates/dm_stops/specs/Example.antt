@@ -21,7 +21,7 @@ use Rattle.dm_durable.specs.declared.group.BitfileRow.{BitfileRow}
 use Rattle.dm_durable.specs.declared.group.GroupTables.{GroupTables}
 use Rattle.dm_durable.specs.declared.group.VolumeRow.{VolumeRow}
 use Rattle.dm_durable.specs.Daemon.{bfid_of}
-use Rattle.dm_durable.specs.Tables.{Named, Numbered}
+use Rattle.dm_durable.specs.Tables.{ByName, ByNumber}
 use Rattle.dm_model.specs.declared.state.Daemon.{Daemon}
 use Rattle.dm_model.specs.declared.state.Group.{Group}
 use Rattle.dm_model.specs.declared.state.GroupHistory.{GroupHistory}
@@ -44,7 +44,7 @@ stored = 1 ∷ 2 ∷ []
 abbrev pub path_of : ℕ → List ℕ
 path_of n = 47 ∷ (96 + n) ∷ []
 
-abbrev pub names : Named Ino
+abbrev pub names : ByName Ino
 names = map.insert (map.insert (map.insert map.empty (path_of 1) (record { 0 = 1 })) (path_of 2) (record { 0 = 2 })) (path_of 3) (record { 0 = 3 })
 
 abbrev pub regular : Inode
@@ -57,7 +57,7 @@ dual = record { change = 2; contents = Dual stored bitfile }
 abbrev pub offline : Inode
 offline = record { change = 3; contents = Offline 2 bitfile }
 
-abbrev pub inodes : Numbered Inode
+abbrev pub inodes : ByNumber Inode
 inodes = map.insert (map.insert (map.insert map.empty 1 regular) 2 dual) 3 offline
 
 abbrev pub entry : Entry
@@ -68,10 +68,10 @@ entry = record {
   dropping = false;
 }
 
-abbrev pub entries : Numbered Entry
+abbrev pub entries : ByNumber Entry
 entries = map.insert map.empty bitfile.0 entry
 
-abbrev pub dumped : Named DumpInode
+abbrev pub dumped : ByName DumpInode
 dumped = map.insert (map.insert map.empty (path_of 1) (Kept (7 ∷ []))) (path_of 2) (NamedFile 2 bitfile)
 
 abbrev pub dump : Dump

@@ -10,7 +10,7 @@ ghost use Rattle.dm_durable.specs.Daemon.{after_record};
 ghost use Rattle.dm_durable.specs.DaemonConditions.{MayFollow};
 ghost use Rattle.dm_durable.specs.Dumps.{is_young};
 ghost use Rattle.dm_durable.specs.Inodes.{has_making};
-ghost use Rattle.dm_durable.specs.Tables.{Numbered};
+ghost use Rattle.dm_durable.specs.Tables.{ByNumber};
 ghost use Rattle.dm_durable.specs.Volumes.{is_sparse_in};
 ghost use Rattle.dm_invariant.specs.Files.{DumpsKept, FilesKept};
 ghost use Rattle.dm_invariant.specs.Kept.{InvariantHolds};
@@ -37,9 +37,9 @@ pub fn stop_keeps()
 pub fn restart_lands()
     ensures follows { (t : DaemonTables) → has_making t.inodes ≡ true
         → MayFollow t (record { time = t.time; step = record_step.Restart }) }
-    ensures files { (t : DaemonTables) (contents : Numbered (List ℕ)) (cap : ℕ) (time : Secs) → FilesKept t contents cap → t.time.0 ≤ time.0
+    ensures files { (t : DaemonTables) (contents : ByNumber (List ℕ)) (cap : ℕ) (time : Secs) → FilesKept t contents cap → t.time.0 ≤ time.0
         → FilesKept (after_record t (record { time = time; step = record_step.Restart })) contents cap }
-    ensures dumps { (t : DaemonTables) (contents : Numbered (List ℕ)) (cap : ℕ) (time : Secs) → FilesKept t contents cap → t.time.0 ≤ time.0
+    ensures dumps { (t : DaemonTables) (contents : ByNumber (List ℕ)) (cap : ℕ) (time : Secs) → FilesKept t contents cap → t.time.0 ≤ time.0
         → DumpsKept t.time.0 t.entries t.dumps
         → let u = after_record t (record { time = time; step = record_step.Restart }) in DumpsKept time.0 u.entries u.dumps }
 {}

@@ -6,7 +6,7 @@ use Rattle.dm_host.specs.Disk.{Disk, Only, Tells, Torn, Written, part}
 use Rattle.dm_host.specs.Works.{Works, File, Follows}
 use Rattle.dm_host.proofs.Moments.{weaker}
 use Rattle.dm_host.proofs.Outside.{torn_below, torn_above, part-at}
-use Rattle.dm_rules.specs.Known.{Known, known_with_write, known_without_range, agrees_with_known, Holds}
+use Rattle.dm_rules.specs.Known.{Known, known_with_write, known_without_range, agrees_with_known, HasKnown}
 use Rattle.dm_rules.proofs.Knowledge.{KeepsOutside, holds-forgotten, holds-written, holds-agrees}
 use Rattle.dm_volume.specs.Volume.{Replaces}
 
@@ -42,11 +42,11 @@ written-there place bytes old new done i below = (
 )
 
 -- after a write that may be cut short nothing is known of its range
-pub torn-holds : (place n : ℕ) (known : Known) (old new : List ℕ) → Torn place n old new → Holds known old → Holds (known_without_range place n known) new
+pub torn-holds : (place n : ℕ) (known : Known) (old new : List ℕ) → Torn place n old new → HasKnown known old → HasKnown (known_without_range place n known) new
 torn-holds place n known old new torn = holds-forgotten place n known old new (torn-outside place n old new torn)
 
 -- after one that was done its bytes are known
-pub written-holds : (place : ℕ) (bytes : List ℕ) (known : Known) (old new : List ℕ) → Written place bytes old new → Holds known old → Holds (known_with_write place bytes known) new
+pub written-holds : (place : ℕ) (bytes : List ℕ) (known : Known) (old new : List ℕ) → Written place bytes old new → HasKnown known old → HasKnown (known_with_write place bytes known) new
 written-holds place bytes known old new done =
     holds-written place bytes known old new (torn-outside place (length bytes) old new done.torn) (written-there place bytes old new done)
 
@@ -62,13 +62,13 @@ module _ {T : Type 0} (file place : ℕ) (bytes : List ℕ) (old new : Disk) (re
     failed = λ told known holds. always_err result (torn-holds place (length bytes) known (old.seen file) (new.seen file) (torn told) holds);
     durable = durable;
     kept = λ told known holds. both_ok result (stands told) (durable told) (λ is only c left.
-        subst (λ (l : List ℕ). Holds (known_with_write place bytes known) l) (sym (only c left)) (written-holds place bytes known (old.seen file) (new.seen file) is holds));
-    any_moment = λ known settled. weaker (File file) old new (Follows (Torn place (length bytes)) file old) (λ x. Holds (known_without_range place (length bytes) known) (x file)) works
+        subst (λ (l : List ℕ). HasKnown (known_with_write place bytes known) l) (sym (only c left)) (written-holds place bytes known (old.seen file) (new.seen file) is holds));
+    any_moment = λ known settled. weaker (File file) old new (Follows (Torn place (length bytes)) file old) (λ x. HasKnown (known_without_range place (length bytes) known) (x file)) works
         (λ x follows. torn-holds place (length bytes) known follows.0 (x file) follows.2 (settled follows.0 follows.1));
     works = works;
   }
 
 -- what a read gives agrees with what is known
-pub part-agrees : (known : Known) (file : List ℕ) (place n : ℕ) (bytes : List ℕ) → length bytes ≡ n → Holds known file → bytes ≡ part file place n → IsTrue (agrees_with_known known place bytes)
+pub part-agrees : (known : Known) (file : List ℕ) (place n : ℕ) (bytes : List ℕ) → length bytes ≡ n → HasKnown known file → bytes ≡ part file place n → IsTrue (agrees_with_known known place bytes)
 part-agrees known file place n bytes long holds is = holds-agrees known file place bytes holds (λ i below.
     ap (λ (l : List ℕ). slice_index l i) is ∙ part-at file place n i (omega (arith, below, long)))

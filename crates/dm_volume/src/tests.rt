@@ -2,7 +2,7 @@
 //! generic in its bay.
 ghost use Rattle.std.specs.Prelude.{◌≡◌, IsTrue, OnOk, length};
 ghost use Rattle.dm_host.specs.Disk.{Tells};
-ghost use Rattle.dm_rules.specs.Known.{Known, known_without_range, agrees_with_known, Holds};
+ghost use Rattle.dm_rules.specs.Known.{Known, known_without_range, agrees_with_known, HasKnown};
 ghost use Rattle.dm_volume.specs.Volume.{IsInZones, IsReadable};
 
 use crate::Volume;
@@ -28,7 +28,7 @@ fn write_and_read<B: Bay>(
     requires mount { MOUNT.vsn ≡ volume.old.vsn }
     requires zone { IsInZones volume.old.size place (length zone.now) }
     requires range { IsReadable volume.old.size start (length into.old) }
-    ensures { Tells (B.disk bay.old) volume.old.file → (known : Known) → Holds known ((B.disk bay.old).seen volume.old.file)
+    ensures { Tells (B.disk bay.old) volume.old.file → (known : Known) → HasKnown known ((B.disk bay.old).seen volume.old.file)
         → OnOk result (IsTrue (agrees_with_known (known_without_range place (length zone.now) known) start into.new)) }
 {
     let _ = volume.write_zone(bay, &MOUNT, place, zone);

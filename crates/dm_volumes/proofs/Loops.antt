@@ -6,7 +6,7 @@ use Rattle.std.specs.FinMap.{entries, len, len-entries}
 use Rattle.dm_base.specs.declared.volume.Chunk.{Chunk}
 use Rattle.dm_durable.specs.declared.group.VolumeRow.{VolumeRow}
 use Rattle.dm_durable.specs.Group.{with_end_behind, with_ends_behind}
-use Rattle.dm_durable.specs.Tables.{Named}
+use Rattle.dm_durable.specs.Tables.{ByName}
 use Rattle.dm_durable.specs.Volumes.{free_slot}
 use Rattle.dm_tables.specs.Rows.{adjust, any}
 use Rattle.dm_tables.proofs.Loops.{asked, asked_on, asked_here, asked_end, asked_whole}
@@ -31,51 +31,51 @@ abbrev pub is_at : ℕ → VolumeRow → Bool
 is_at slot v = nat_eq v.slot slot
 
 -- the volumes from a place on are those that were not asked yet
-abbrev pub Asking : ℕ → ℕ → Named VolumeRow → Type 0
+abbrev pub Asking : ℕ → ℕ → ByName VolumeRow → Type 0
 Asking slot at volumes = asked {K = List ℕ} (is_at slot) (drop at (entries volumes)) ≡ any (λ vsn v. nat_eq v.slot slot) volumes
 
-pub asking_begun : (slot : ℕ) (volumes : Named VolumeRow) → Asking slot 0 volumes
+pub asking_begun : (slot : ℕ) (volumes : ByName VolumeRow) → Asking slot 0 volumes
 asking_begun slot volumes = asked_whole paths (is_at slot) (entries volumes) volumes refl
 
-pub asking_on : (slot at : ℕ) (volumes : Named VolumeRow) (vsn : List ℕ) (v : VolumeRow) → slice_get (entries volumes) at ≡ Some (vsn, v) → is_at slot v ≡ false
+pub asking_on : (slot at : ℕ) (volumes : ByName VolumeRow) (vsn : List ℕ) (v : VolumeRow) → slice_get (entries volumes) at ≡ Some (vsn, v) → is_at slot v ≡ false
     → Asking slot at volumes → Asking slot (at + 1) volumes
 asking_on slot at volumes vsn v e fails so_far =
     asked_on (is_at slot) (drop at (entries volumes)) (drop (at + 1) (entries volumes)) vsn v _ (there (entries volumes) at (vsn, v) e) fails so_far
 
-pub asking_here : (slot at : ℕ) (volumes : Named VolumeRow) (vsn : List ℕ) (v : VolumeRow) → slice_get (entries volumes) at ≡ Some (vsn, v) → is_at slot v ≡ true
+pub asking_here : (slot at : ℕ) (volumes : ByName VolumeRow) (vsn : List ℕ) (v : VolumeRow) → slice_get (entries volumes) at ≡ Some (vsn, v) → is_at slot v ≡ true
     → Asking slot at volumes → true ≡ any (λ vsn v. nat_eq v.slot slot) volumes
 asking_here slot at volumes vsn v e here so_far =
     asked_here (is_at slot) (drop at (entries volumes)) (drop (at + 1) (entries volumes)) vsn v _ (there (entries volumes) at (vsn, v) e) here so_far
 
-pub asking_none : (slot at : ℕ) (volumes : Named VolumeRow) → slice_get (entries volumes) at ≡ None → Asking slot at volumes → false ≡ any (λ vsn v. nat_eq v.slot slot) volumes
+pub asking_none : (slot at : ℕ) (volumes : ByName VolumeRow) → slice_get (entries volumes) at ≡ None → Asking slot at volumes → false ≡ any (λ vsn v. nat_eq v.slot slot) volumes
 asking_none slot at volumes e so_far = asked_end (is_at slot) (drop at (entries volumes)) _ (none_there (entries volumes) at e) so_far
 
-pub asking_end : (slot at : ℕ) (volumes : Named VolumeRow) → len volumes ≤ at → Asking slot at volumes → false ≡ any (λ vsn v. nat_eq v.slot slot) volumes
+pub asking_end : (slot at : ℕ) (volumes : ByName VolumeRow) → len volumes ≤ at → Asking slot at volumes → false ≡ any (λ vsn v. nat_eq v.slot slot) volumes
 asking_end slot at volumes past so_far =
     asked_end (is_at slot) (drop at (entries volumes)) _ (drop_all at (entries volumes) (let e = len-entries volumes in omega arith)) so_far
 
 -- ---- the least device that is free
-pub taken_slot : (volumes : Named VolumeRow) (left next slot : ℕ) → any (λ vsn v. nat_eq v.slot slot) volumes ≡ true → left ≡ suc next
+pub taken_slot : (volumes : ByName VolumeRow) (left next slot : ℕ) → any (λ vsn v. nat_eq v.slot slot) volumes ≡ true → left ≡ suc next
     → free_slot volumes left slot ≡ free_slot volumes next (slot + 1)
 unfolding free_slot
 taken_slot volumes left next slot taken more =
     ap (λ n. free_slot volumes n slot) more ∙ ap (λ b. cond b (free_slot volumes next (slot + 1)) slot) taken
 
-pub here_slot : (volumes : Named VolumeRow) (left next slot : ℕ) → any (λ vsn v. nat_eq v.slot slot) volumes ≡ false → left ≡ suc next
+pub here_slot : (volumes : ByName VolumeRow) (left next slot : ℕ) → any (λ vsn v. nat_eq v.slot slot) volumes ≡ false → left ≡ suc next
     → free_slot volumes left slot ≡ slot
 unfolding free_slot
 here_slot volumes left next slot free more =
     ap (λ n. free_slot volumes n slot) more ∙ ap (λ b. cond b (free_slot volumes next (slot + 1)) slot) free
 
-pub no_slot : (volumes : Named VolumeRow) (left slot : ℕ) → left ≡ 0 → free_slot volumes left slot ≡ slot
+pub no_slot : (volumes : ByName VolumeRow) (left slot : ℕ) → left ≡ 0 → free_slot volumes left slot ≡ slot
 unfolding free_slot
 no_slot volumes left slot none = ap (λ n. free_slot volumes n slot) none
 
 -- ---- ends
-pub raised_begun : (chunks : List Chunk) (volumes : Named VolumeRow) → with_ends_behind (drop 0 chunks) volumes ≡ with_ends_behind chunks volumes
+pub raised_begun : (chunks : List Chunk) (volumes : ByName VolumeRow) → with_ends_behind (drop 0 chunks) volumes ≡ with_ends_behind chunks volumes
 raised_begun chunks volumes = refl
 
-pub raised_on : (chunks : List Chunk) (i : ℕ) (c : Chunk) (volumes after whole : Named VolumeRow) → i < length chunks → c ≡ get_or chunks i c
+pub raised_on : (chunks : List Chunk) (i : ℕ) (c : Chunk) (volumes after whole : ByName VolumeRow) → i < length chunks → c ≡ get_or chunks i c
     → after ≡ adjust volumes c.vsn.0 (with_end_behind c) → with_ends_behind (drop i chunks) volumes ≡ whole → with_ends_behind (drop (i + 1) chunks) after ≡ whole
 unfolding with_ends_behind
 raised_on chunks i c volumes after whole small is raised so_far =
@@ -83,7 +83,7 @@ raised_on chunks i c volumes after whole small is raised so_far =
     ∙ sym (ap (λ l. with_ends_behind l volumes) (drop_more chunks i c small ∙ ap (λ d. d ∷ drop (i + 1) chunks) (sym is)))
     ∙ so_far
 
-pub raised_end : (chunks : List Chunk) (i : ℕ) (volumes whole : Named VolumeRow) → length chunks ≤ i → with_ends_behind (drop i chunks) volumes ≡ whole → volumes ≡ whole
+pub raised_end : (chunks : List Chunk) (i : ℕ) (volumes whole : ByName VolumeRow) → length chunks ≤ i → with_ends_behind (drop i chunks) volumes ≡ whole → volumes ≡ whole
 unfolding with_ends_behind
 raised_end chunks i volumes whole past so_far = sym (ap (λ l. with_ends_behind l volumes) (drop_all i chunks past)) ∙ so_far
 

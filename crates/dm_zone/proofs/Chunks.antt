@@ -5,7 +5,7 @@ use Rattle.std.specs.List.{flat_map, AllByRecursion}
 use Rattle.std.proofs.lemmas.List.{append-nil, nil_from_length, take_at, drop_at}
 use Rattle.std.proofs.lemmas.Grind.{flat_map-append}
 use Rattle.dm_rules.specs.Version.{chunk_header}
-use Rattle.dm_rules.specs.Zone.{Chunk, chunk_front, chunk_text, sum_text, zone, zone_front}
+use Rattle.dm_rules.specs.Zone.{SpelledChunk, chunk_front, chunk_text, sum_text, zone, zone_front}
 use Rattle.dm_zone.specs.declared.contents.ZoneChunk.{ZoneChunk}
 use Rattle.dm_zone.specs.Fields.{number_at, zone_fields, chunk_fields, AllRight}
 use Rattle.dm_zone.specs.Grammar.{IsChunk, IsZone}
@@ -14,11 +14,11 @@ use Rattle.dm_zone.proofs.Wide.{IsBytes, IsBytes-drop}
 use Rattle.dm_zone.proofs.Headers.{chunk_at, chunk_parts, length-chunk_text, zone_header_is, zone_numbers}
 use Rattle.dm_zone.proofs.Cuts.{length-zone_front}
 
-each_push : (version : ℕ) (cs : List Chunk) (c : Chunk) → AllByRecursion (IsChunk version) cs → IsChunk version c → AllByRecursion (IsChunk version) (cs ++ c ∷ [])
+each_push : (version : ℕ) (cs : List SpelledChunk) (c : SpelledChunk) → AllByRecursion (IsChunk version) cs → IsChunk version c → AllByRecursion (IsChunk version) (cs ++ c ∷ [])
 each_push version [] c each is = (is, tt)
 each_push version (x ∷ cs) c each is = (each.0, each_push version cs c each.1 is)
 
-entries_push : (version place : ℕ) (cs : List Chunk) (c : Chunk) → entries version place (cs ++ c ∷ []) ≡ entries version place cs ++ entry version (place + length (flat_map chunk_text cs)) c ∷ []
+entries_push : (version place : ℕ) (cs : List SpelledChunk) (c : SpelledChunk) → entries version place (cs ++ c ∷ []) ≡ entries version place cs ++ entry version (place + length (flat_map chunk_text cs)) c ∷ []
 entries_push version place [] c = ap (λ p. entry version p c ∷ []) (sym (omega arith))
 entries_push version place (x ∷ cs) c =
     let later : place + length (chunk_text x) + length (flat_map chunk_text cs) ≡ place + length (chunk_text x ++ flat_map chunk_text cs) = omega (arith, length-append (chunk_text x) (flat_map chunk_text cs)) in
@@ -70,7 +70,7 @@ read_next version header len bytes text rest after n place header_is text_is fit
 -- ---- the whole zone
 
 -- what was read behind a right header
-begins : (version : ℕ) (bytes rest : List ℕ) (count epoch whole : ℕ) (chunks : List Chunk) → IsBytes bytes → AllRight zone_fields bytes → IsHeader count epoch whole bytes → AllByRecursion (IsChunk version) chunks
+begins : (version : ℕ) (bytes rest : List ℕ) (count epoch whole : ℕ) (chunks : List SpelledChunk) → IsBytes bytes → AllRight zone_fields bytes → IsHeader count epoch whole bytes → AllByRecursion (IsChunk version) chunks
     → drop 32 bytes ≡ flat_map chunk_text chunks ++ rest → Begins version bytes epoch count whole chunks rest
 begins version bytes rest count epoch whole chunks fits right h each behind =
     let n = zone_numbers bytes fits right in
@@ -121,7 +121,7 @@ left_over version bytes rest count epoch whole end told fits right h r same left
 })
 
 -- each chunk's bytes stand where its entry says
-stand_from : (version : ℕ) (bytes front rest : List ℕ) (place : ℕ) (cs : List Chunk) → length front ≡ place → AllByRecursion (IsChunk version) cs
+stand_from : (version : ℕ) (bytes front rest : List ℕ) (place : ℕ) (cs : List SpelledChunk) → length front ≡ place → AllByRecursion (IsChunk version) cs
     → bytes ≡ front ++ (flat_map chunk_text cs ++ rest) → Stand bytes (entries version place cs) cs
 stand_from version bytes front rest place [] at each spelled = tt
 stand_from version bytes front rest place (c ∷ cs) at each spelled =
@@ -136,7 +136,7 @@ stand_from version bytes front rest place (c ∷ cs) at each spelled =
       stand_from version bytes (front ++ chunk_text c) rest (place + length (chunk_text c)) cs (omega (arith, at, length-append front (chunk_text c))) each.1 (first ∙ sym (append_assoc front (chunk_text c) later)),
     )
 
-pub stand : (version : ℕ) (bytes : List ℕ) (epoch : ℕ) (chunks : List Chunk) → AllByRecursion (IsChunk version) chunks → bytes ≡ zone epoch chunks
+pub stand : (version : ℕ) (bytes : List ℕ) (epoch : ℕ) (chunks : List SpelledChunk) → AllByRecursion (IsChunk version) chunks → bytes ≡ zone epoch chunks
     → Stand bytes (entries version 32 chunks) chunks
 stand version bytes epoch chunks each spelled =
     let front = zone_front epoch (length chunks) (32 + length (flat_map chunk_text chunks)) in
@@ -144,7 +144,7 @@ stand version bytes epoch chunks each spelled =
 
 -- nothing is left: the zone is read
 pub spells : (version : ℕ) (bytes rest : List ℕ) (count epoch whole end : ℕ) (told : List ZoneChunk) → IsBytes bytes → AllRight zone_fields bytes → IsHeader count epoch whole bytes → Read version (drop 32 bytes) count told end rest → whole ≡ end → length rest ≡ 0
-    → (chunks : List Chunk) × Spells version bytes epoch told chunks
+    → (chunks : List SpelledChunk) × Spells version bytes epoch told chunks
 spells version bytes rest count epoch whole end told fits right h r same none =
     let b = begins version bytes rest count epoch whole r.chunks fits right h r.each r.spelled in
     let flat = flat_map chunk_text r.chunks in
@@ -188,7 +188,7 @@ is_spelled version bytes count epoch whole end fits right h to same all =
     }
 
 -- what is told of a zone that is spelled, with its chunks
-pub spelled_told : (version : ℕ) (bytes : List ℕ) (epoch : ℕ) (told : List ZoneChunk) (chunks : List Chunk) → IsZone version epoch chunks → bytes ≡ zone epoch chunks
+pub spelled_told : (version : ℕ) (bytes : List ℕ) (epoch : ℕ) (told : List ZoneChunk) (chunks : List SpelledChunk) → IsZone version epoch chunks → bytes ≡ zone epoch chunks
     → told ≡ entries version 32 chunks → Spells version bytes epoch told chunks
 spelled_told version bytes epoch told chunks is spelled told_is = record {
   spelled = spelled;

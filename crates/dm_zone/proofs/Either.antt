@@ -5,7 +5,7 @@ use Rattle.std.specs.Int.{w32, w64}
 use Rattle.std.specs.List.{flat_map, AllByRecursion}
 use Rattle.std.proofs.lemmas.Bool.{cases_eq, cases_lt}
 use Rattle.dm_rules.specs.Version.{chunk_header}
-use Rattle.dm_rules.specs.Zone.{Chunk, chunk_text, zone}
+use Rattle.dm_rules.specs.Zone.{SpelledChunk, chunk_text, zone}
 use Rattle.dm_zone.specs.Fields.{Field, number_at, chunk_fields, zone_fields, AllRight, FirstWrong}
 use Rattle.dm_zone.specs.Grammar.{IsChunk, IsZone}
 use Rattle.dm_zone.specs.Reading.{IsHeader, Read, Stops, WrongAt, entries}
@@ -32,7 +32,7 @@ known (f ∷ fs) bytes =
 
 -- n chunks stand there, or the next is wrong before
 pub record Stand (version : ℕ) (text : List ℕ) (n : ℕ) : Type 0 where
-  pub chunks : List Chunk
+  pub chunks : List SpelledChunk
   pub rest : List ℕ
   pub spelled : text ≡ flat_map chunk_text chunks ++ rest
   pub each : AllByRecursion (IsChunk version) chunks
@@ -78,7 +78,7 @@ stands version (suc n) text fits =
     ]
 
 abbrev Answer : ℕ → List ℕ → Type 0
-Answer version bytes = ((epoch : ℕ) × (chunks : List Chunk) × IsZone version epoch chunks × (bytes ≡ zone epoch chunks)) ⊎ ((place : ℕ) × WrongAt version bytes place)
+Answer version bytes = ((epoch : ℕ) × (chunks : List SpelledChunk) × IsZone version epoch chunks × (bytes ≡ zone epoch chunks)) ⊎ ((place : ℕ) × WrongAt version bytes place)
 
 answer_of : (version : ℕ) (bytes : List ℕ) (count epoch whole : ℕ) → IsBytes bytes → AllRight zone_fields bytes → IsHeader count epoch whole bytes → Stand version (drop 32 bytes) count → Answer version bytes
 answer_of version bytes count epoch whole fits right h s =

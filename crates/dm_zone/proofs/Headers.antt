@@ -11,7 +11,7 @@ use Rattle.std.specs.Prelude.{nat_eq}
 use Rattle.std.specs.Bool.{Decides}
 use lib.Pointwise.{pointwise}
 use Rattle.dm_rules.specs.Version.{chunk_header, has_sum, sum_length}
-use Rattle.dm_rules.specs.Zone.{Chunk, chunk_front, chunk_sum, chunk_text, sum_text, zone_front}
+use Rattle.dm_rules.specs.Zone.{SpelledChunk, chunk_front, chunk_sum, chunk_text, sum_text, zone_front}
 use Rattle.dm_rules.proofs.Sums.{length-sum_text}
 use Rattle.dm_zone.specs.Fields.{Field, number_at, letters, chunk_bytes, sum_there, zone_fields, text_field, chunk_fields, IsRight, IsCut, IsRefused, AllRight, FirstWrong}
 use Rattle.dm_zone.specs.Grammar.{IsChunk}
@@ -111,7 +111,7 @@ texts : (xs ys : List ℕ) → Decides (pointwise nat_eq xs ys) (xs ≡ ys)
 texts xs ys = slice_eq-Decides Decides-eqb xs ys (pointwise nat_eq xs ys) refl
 
 -- the chunk that the bytes begin with
-abbrev pub chunk_at : ℕ → List ℕ → Chunk
+abbrev pub chunk_at : ℕ → List ℕ → SpelledChunk
 chunk_at version bytes = record {
   bfid = number_at w128 8 bytes;
   total = number_at w64 40 bytes;
@@ -204,13 +204,13 @@ chunk_numbers bfid offset count total rest b o c t = record {
 }
 
 -- the bytes begin with this chunk, and nothing else is read of them
-pub record Again (version : ℕ) (c : Chunk) (rest bytes : List ℕ) : Type 0 where
+pub record Again (version : ℕ) (c : SpelledChunk) (rest bytes : List ℕ) : Type 0 where
   pub right : AllRight (chunk_fields version) bytes
   pub chunk_is : chunk_at version bytes ≡ c
   pub count_is : number_at w64 32 bytes ≡ length c.bytes
   pub rest_is : drop (chunk_header version + number_at w64 32 bytes) bytes ≡ rest
 
-again_of : (version : ℕ) (c : Chunk) (rest bytes : List ℕ) → IsChunk version c → chunk_header version + length c.bytes ≤ length bytes
+again_of : (version : ℕ) (c : SpelledChunk) (rest bytes : List ℕ) → IsChunk version c → chunk_header version + length c.bytes ≤ length bytes
     → ChunkNumbers c.bfid c.offset (length c.bytes) c.total (sum_text c.sum ++ (c.bytes ++ rest)) bytes → Again version c rest bytes
 again_of version c rest bytes is long n =
     let count = number_at w64 32 bytes in
@@ -252,7 +252,7 @@ again_of version c rest bytes is long n =
       rest_is = others;
     }
 
-pub length-chunk_text : (version : ℕ) (c : Chunk) → IsChunk version c → length (chunk_text c) ≡ chunk_header version + length c.bytes
+pub length-chunk_text : (version : ℕ) (c : SpelledChunk) → IsChunk version c → length (chunk_text c) ≡ chunk_header version + length c.bytes
 length-chunk_text version c is =
     let front = chunk_front c.bfid c.offset (length c.bytes) c.total in
     omega (
@@ -264,7 +264,7 @@ length-chunk_text version c is =
       length-append (front ++ sum_text c.sum) c.bytes,
     )
 
-pub chunk_again : (version : ℕ) (c : Chunk) (rest bytes : List ℕ) → IsChunk version c → bytes ≡ chunk_text c ++ rest → Again version c rest bytes
+pub chunk_again : (version : ℕ) (c : SpelledChunk) (rest bytes : List ℕ) → IsChunk version c → bytes ≡ chunk_text c ++ rest → Again version c rest bytes
 chunk_again version c rest bytes is spelled =
     let front = chunk_front c.bfid c.offset (length c.bytes) c.total in
     let sum = sum_text c.sum in

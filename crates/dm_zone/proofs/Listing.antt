@@ -4,7 +4,7 @@ use Rattle.std.specs.Int.{w64}
 use Rattle.std.specs.List.{flat_map, AllByRecursion}
 use Rattle.std.proofs.lemmas.List.{append-nil, drop_at}
 use Rattle.dm_rules.specs.Version.{chunk_header}
-use Rattle.dm_rules.specs.Zone.{Chunk, chunk_text, zone, zone_front}
+use Rattle.dm_rules.specs.Zone.{SpelledChunk, chunk_text, zone, zone_front}
 use Rattle.dm_zone.specs.declared.contents.ZoneChunk.{ZoneChunk}
 use Rattle.dm_zone.specs.Fields.{number_at, chunk_fields, AllRight}
 use Rattle.dm_zone.specs.Grammar.{IsChunk, IsZone}
@@ -16,8 +16,8 @@ use Rattle.dm_zone.proofs.OneWay.{one_zone}
 -- n chunks of so many were told, and these are left, from `place` on
 pub record Listing (version : ℕ) (bytes : List ℕ) (count n : ℕ) (told : List ZoneChunk) (place : ℕ) (rest : List ℕ) : Type 0 where
   pub epoch : ℕ
-  pub all : List Chunk
-  pub left : List Chunk
+  pub all : List SpelledChunk
+  pub left : List SpelledChunk
   pub is_zone : IsZone version epoch all
   pub spelled : bytes ≡ zone epoch all
   pub each : AllByRecursion (IsChunk version) left
@@ -43,13 +43,13 @@ listing_none version bytes rest count told s none all =
     }
 
 -- the next chunk, while there is one
-pub record Next (version : ℕ) (c : Chunk) (cs : List Chunk) (rest : List ℕ) : Type 0 where
+pub record Next (version : ℕ) (c : SpelledChunk) (cs : List SpelledChunk) (rest : List ℕ) : Type 0 where
   pub right : AllRight (chunk_fields version) rest
   pub told_is : (place : ℕ) → entry_at version place rest ≡ entry version place c
   pub len_is : number_at w64 32 rest ≡ length c.bytes
   pub rest_is : drop (chunk_header version + number_at w64 32 rest) rest ≡ flat_map chunk_text cs
 
-next_of : (version : ℕ) (c : Chunk) (cs : List Chunk) (rest : List ℕ) → IsChunk version c → rest ≡ flat_map chunk_text (c ∷ cs) → Next version c cs rest
+next_of : (version : ℕ) (c : SpelledChunk) (cs : List SpelledChunk) (rest : List ℕ) → IsChunk version c → rest ≡ flat_map chunk_text (c ∷ cs) → Next version c cs rest
 next_of version c cs rest is rest_is =
     let a = chunk_again version c (flat_map chunk_text cs) rest is rest_is in
     record {
@@ -69,7 +69,7 @@ next_of version c cs rest is rest_is =
 pub next_right : (version : ℕ) (bytes rest : List ℕ) (count n place : ℕ) (told : List ZoneChunk) → n < count → Listing version bytes count n told place rest → AllRight (chunk_fields version) rest
 next_right version bytes rest count n place told more l = by l.left l.each l.rest_is l.count_is
   where
-    by : (left : List Chunk) → AllByRecursion (IsChunk version) left → rest ≡ flat_map chunk_text left → n + length left ≡ count → AllRight (chunk_fields version) rest
+    by : (left : List SpelledChunk) → AllByRecursion (IsChunk version) left → rest ≡ flat_map chunk_text left → n + length left ≡ count → AllRight (chunk_fields version) rest
     by [] each is counts = absurd (omega (arith, more, counts))
     by (c ∷ cs) each is counts = (next_of version c cs rest each.0 is).right
 
@@ -77,7 +77,7 @@ pub listing_next : (version header : ℕ) (bytes rest after : List ℕ) (count n
     → after ≡ drop (header + chunk.len) rest → Listing version bytes count n told place rest → Listing version bytes count (n + 1) told' (place + (header + chunk.len)) after
 listing_next version header bytes rest after count n place told told' chunk header_is more is told_is after_is l = by l.left l.each l.rest_is l.told_is l.count_is
   where
-    by : (left : List Chunk) → AllByRecursion (IsChunk version) left → rest ≡ flat_map chunk_text left → told ++ entries version place left ≡ entries version 32 l.all → n + length left ≡ count
+    by : (left : List SpelledChunk) → AllByRecursion (IsChunk version) left → rest ≡ flat_map chunk_text left → told ++ entries version place left ≡ entries version 32 l.all → n + length left ≡ count
         → Listing version bytes count (n + 1) told' (place + (header + chunk.len)) after
     by [] each rest_is tells counts = absurd (omega (arith, more, counts))
     by (c ∷ cs) each rest_is tells counts =
@@ -104,12 +104,12 @@ listing_next version header bytes rest after count n place told told' chunk head
 
 -- none is left
 pub listing_all : (version : ℕ) (bytes rest : List ℕ) (count n place : ℕ) (told : List ZoneChunk) → n ≡ count → Listing version bytes count n told place rest
-    → (epoch : ℕ) (chunks : List Chunk) → IsZone version epoch chunks → bytes ≡ zone epoch chunks → told ≡ entries version 32 chunks
+    → (epoch : ℕ) (chunks : List SpelledChunk) → IsZone version epoch chunks → bytes ≡ zone epoch chunks → told ≡ entries version 32 chunks
 listing_all version bytes rest count n place told all l epoch chunks is spelled =
     let one = one_zone version bytes l.epoch epoch l.all chunks l.is_zone is l.spelled spelled in
     by l.left l.told_is l.count_is ∙ ap (entries version 32) one.1
   where
-    by : (left : List Chunk) → told ++ entries version place left ≡ entries version 32 l.all → n + length left ≡ count → told ≡ entries version 32 l.all
+    by : (left : List SpelledChunk) → told ++ entries version place left ≡ entries version 32 l.all → n + length left ≡ count → told ≡ entries version 32 l.all
     by [] tells counts = sym (append-nil told) ∙ tells
     by (c ∷ cs) tells counts = absurd (omega (arith, all, counts))
 

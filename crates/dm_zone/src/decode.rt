@@ -3,7 +3,7 @@
 
 ghost use Rattle.std.specs.Prelude.{◌≡◌, ◌⊎◌, ◌<◌, ◌≤◌, ◌+◌, ◌^◌, drop, length, slice_index, List, ℕ, IfOk, MatchResult};
 ghost use Rattle.std.specs.Int.{w64};
-ghost use Rattle.dm_rules.specs.Zone.{Chunk, zone, zone_header};
+ghost use Rattle.dm_rules.specs.Zone.{SpelledChunk, zone, zone_header};
 ghost use Rattle.dm_zone.specs.Fields.{AllRight, FirstWrong, chunk_fields, number_at, number_fields, zone_fields};
 ghost use Rattle.dm_zone.specs.Grammar.{IsZone};
 ghost use Rattle.dm_zone.specs.Reading.{AreNumbers, IsHeader, IsSpelled, ReadTo, SomeZone, Spells, Stops, WrongAt, entries, entry_at};
@@ -47,9 +47,9 @@ const TOTAL: usize = 40;
 pub fn decode_zone(alloc: Global, bytes: &[u8], version: u8) -> Result<Zone, ZoneError>
     // What is read is spelled so.
     ensures read { IfOk result (λ z.
-        (chunks : List Chunk) × Spells version bytes.now z.epoch z.chunks chunks) }
+        (chunks : List SpelledChunk) × Spells version bytes.now z.epoch z.chunks chunks) }
     // What is spelled so is read, unless memory is refused.
-    ensures all { (epoch : ℕ) (chunks : List Chunk) →
+    ensures all { (epoch : ℕ) (chunks : List SpelledChunk) →
         IsZone version epoch chunks → bytes.now ≡ zone epoch chunks → MatchResult result
         (λ z. (z.epoch ≡ epoch) × (z.chunks ≡ entries version zone_header chunks))
         (λ e. e ≡ ZoneError.NoMemory) }
@@ -64,7 +64,7 @@ pub fn decode_zone(alloc: Global, bytes: &[u8], version: u8) -> Result<Zone, Zon
 
 fn read_zone(alloc: Global, bytes: &[u8], version: u8) -> Result<Zone, ZoneError>
     ensures read { IfOk result (λ z.
-        (chunks : List Chunk) × Spells version bytes.now z.epoch z.chunks chunks) }
+        (chunks : List SpelledChunk) × Spells version bytes.now z.epoch z.chunks chunks) }
     ensures wrong { (place : ℕ) →
         result ≡ Err (ZoneError.BadZone place) → WrongAt version bytes.now place }
     ensures memory { result ≡ Err ZoneError.NoMemory → SomeZone version bytes.now }
@@ -228,7 +228,7 @@ fn chunks_of(
     count: u32,
 ) -> Result<Vec<ZoneChunk>, AllocError>
     requires { (epoch : ℕ) × IsSpelled version bytes.now epoch count }
-    ensures { IfOk result (λ v. (epoch : ℕ) (chunks : List Chunk) →
+    ensures { IfOk result (λ v. (epoch : ℕ) (chunks : List SpelledChunk) →
         IsZone version epoch chunks → bytes.now ≡ zone epoch chunks → v.items ≡ entries version zone_header chunks) }
 {
     let mut chunks = Vec::with_capacity(alloc, count as usize)?;
@@ -270,13 +270,13 @@ fn chunk_of(bytes: &[u8], place: u64, version: u8) -> ZoneChunk
 /// done: the contract is the law, for every list of bytes.
 pub fn zones_are_read_one_way()
     ensures either { (version : ℕ) (bytes : List ℕ) → ((i : ℕ) → slice_index bytes i < 256) →
-        ((epoch : ℕ) × (chunks : List Chunk) × IsZone version epoch chunks × (bytes ≡ zone epoch chunks))
+        ((epoch : ℕ) × (chunks : List SpelledChunk) × IsZone version epoch chunks × (bytes ≡ zone epoch chunks))
         ⊎ ((place : ℕ) × WrongAt version bytes place) }
-    ensures one_zone { (version : ℕ) (bytes : List ℕ) (epoch other : ℕ) (chunks others : List Chunk) →
+    ensures one_zone { (version : ℕ) (bytes : List ℕ) (epoch other : ℕ) (chunks others : List SpelledChunk) →
         IsZone version epoch chunks → IsZone version other others →
         bytes ≡ zone epoch chunks → bytes ≡ zone other others →
         (epoch ≡ other) × (chunks ≡ others) }
-    ensures zone_or_wrong { (version : ℕ) (bytes : List ℕ) (epoch place : ℕ) (chunks : List Chunk) →
+    ensures zone_or_wrong { (version : ℕ) (bytes : List ℕ) (epoch place : ℕ) (chunks : List SpelledChunk) →
         IsZone version epoch chunks → bytes ≡ zone epoch chunks → WrongAt version bytes place → ⊥ }
     ensures one_place { (version : ℕ) (bytes : List ℕ) (place other : ℕ) →
         WrongAt version bytes place → WrongAt version bytes other → place ≡ other }

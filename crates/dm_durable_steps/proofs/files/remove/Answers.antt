@@ -3,7 +3,7 @@ use Rattle.std.specs.FinMap.{get, remove}
 use Rattle.dm_durable.specs.declared.daemon.DaemonTables.{DaemonTables}
 use Rattle.dm_durable.specs.declared.daemon.Inode.{Inode}
 use Rattle.dm_base.specs.declared.identifier.Ino.{Ino}
-use Rattle.dm_durable.specs.Tables.{Numbered, Named}
+use Rattle.dm_durable.specs.Tables.{ByNumber, ByName}
 use Rattle.dm_durable.specs.Inodes.{bitfile_in}
 use Rattle.dm_durable.specs.Entries.{after_letting_go_if}
 use Rattle.dm_durable.specs.Daemon.{after_remove}
@@ -16,9 +16,9 @@ returns-in_default c = ap (after_remove c.args.tables c.args.path.now c.args.cha
 pub returns : goal.returns
 returns c =
     let t : DaemonTables = record c.args.tables { change = c.args.change; names = c.remove.new.self } in
-    let whole : Numbered Inode = remove c.args.tables.inodes c.in-Some.ino.0 in
+    let whole : ByNumber Inode = remove c.args.tables.inodes c.in-Some.ino.0 in
     let was : Option ℕ = bitfile_in (get c.args.tables.inodes c.in-Some.ino.0) in
-    let named : Named Ino → DaemonTables = λ m. record t { names = m; inodes = whole; entries = after_letting_go_if t.entries whole t.time.0 was } in
+    let named : ByName Ino → DaemonTables = λ m. record t { names = m; inodes = whole; entries = after_letting_go_if t.entries whole t.time.0 was } in
     freed t _ whole _ _ was
     (c.remove-2.ensures.removed ∙ ap (remove c.args.tables.inodes) c.from-key.ensures)
     (c.bitfile_at-named.ensures ∙ ap (λ k. bitfile_in (get c.args.tables.inodes k)) c.from-key.ensures)

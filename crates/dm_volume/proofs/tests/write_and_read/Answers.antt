@@ -2,7 +2,7 @@ use Rattle.std.proofs.Common.{length, sym, subst}
 use Rattle.dm_host.specs.Disk.{Tells}
 use Rattle.dm_host.specs.Works.{File}
 use Rattle.dm_host.proofs.Moments.{still_told}
-use Rattle.dm_rules.specs.Known.{known_without_range, Holds}
+use Rattle.dm_rules.specs.Known.{known_without_range, HasKnown}
 use Rattle.dm_volume.specs.Volume.{Descriptor}
 use Rattle.dm_volume.proofs.Replacing.{torn-holds}
 use Rattle.dm_volume.proofs.tests.write_and_read.Goals as goal
@@ -15,4 +15,4 @@ returns g c = λ told known holds.
     let left = torn-holds c.args.place (length c.args.zone.now) known _ _ (replaces.torn told) holds in
     let kept : Descriptor → Type 0 = λ v. Tells (g.B.Bay.disk c.write_zone.new.bay) v.file in
     c.read_chunk.ensures.reads.agrees (subst kept (sym c.write_zone.ensures.volume) still) less
-    (subst (λ (v : Descriptor). Holds less ((g.B.Bay.disk c.write_zone.new.bay).seen v.file)) (sym c.write_zone.ensures.volume) left)
+    (subst (λ (v : Descriptor). HasKnown less ((g.B.Bay.disk c.write_zone.new.bay).seen v.file)) (sym c.write_zone.ensures.volume) left)
