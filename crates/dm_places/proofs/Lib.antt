@@ -3,3 +3,5 @@ pub mod Heap
 pub mod Found
 pub mod First
 pub mod Queued
+pub mod Texts
+pub mod OfVolumes

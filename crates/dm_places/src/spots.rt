@@ -1,6 +1,6 @@
 //! The spots of a volume, least first.
 
-ghost use Rattle.std.specs.Prelude.{◌≡◌, ◌+◌, ◌-◌, ◌≤◌, ◌<◌, [], ◌∷◌, IfNone, IfSome, IsOk, OnOk, length};
+ghost use Rattle.std.specs.Prelude.{◌≡◌, ◌+◌, ◌-◌, ◌≤◌, ◌<◌, [], ◌∷◌, IfNone, IfSome, IsOk, OnErr, OnOk, length};
 ghost use Rattle.std.specs.List.{filter};
 ghost use Rattle.std.specs.List.Sorted.{IsPermutation};
 ghost use Rattle.dm_places.specs.Queue.{DropsSpot};
@@ -38,7 +38,8 @@ impl Model for Spots {
 impl Spots {
     /// No spot, and no place. It takes no memory.
     pub fn empty(alloc: Global) -> Spots
-        ensures { result.spots ≡ [] }
+        ensures spots { result.spots ≡ [] }
+        ensures spare { result.spare ≡ 0 }
     {
         Spots {
             heap: BinaryHeap::new(alloc),
@@ -65,6 +66,28 @@ impl Spots {
             self.kept = spots;
         }
         Ok(())
+    }
+
+    /// Keeps a place more. Where memory is refused, as many are kept as before.
+    pub fn keep_one(&mut self) -> Result<(), NoMemory>
+        ensures spots { self.new.spots ≡ self.old.spots }
+        ensures ok { OnOk result (self.new.spare ≡ self.old.spare + 1) }
+        ensures err { OnErr result (self.new.spare ≡ self.old.spare) }
+    {
+        let Some(kept) = self.kept.checked_add(1) else {
+            return Err(NoMemory);
+        };
+        self.heap.reserve(kept)?;
+        self.kept = kept;
+        Ok(())
+    }
+
+    /// A place fewer is kept, if one is.
+    pub fn give_back(&mut self)
+        ensures spots { self.new.spots ≡ self.old.spots }
+        ensures spare { self.new.spare ≡ self.old.spare - 1 }
+    {
+        self.kept = self.kept.saturating_sub(1);
     }
 
     /// Puts the spot into a place that is kept. It takes no memory.
