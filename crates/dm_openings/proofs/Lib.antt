@@ -1,0 +1,3 @@
+pub mod EveryLawful
+pub mod NamesSame
+pub mod OpeningsBegin
