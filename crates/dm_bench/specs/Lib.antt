@@ -1,0 +1,5 @@
+pub mod Systems
+pub mod Named
+pub mod Answers
+pub mod Entries
+pub mod Drawing
