@@ -18,8 +18,10 @@ ghost use Rattle.dm_daemon_journal.specs.Doubts.{after_settling, was_done};
 ghost use Rattle.dm_daemon_journal.specs.Stored.{EitherTables, OnDisk, Sits};
 
 use crate::kept::Journalled;
+use dm_base::NoMemory;
 use dm_ckpt::Store;
 use dm_daemon_tables::{Prepared, Tables};
+use dm_durable::DaemonRecord;
 use dm_host::{Bay, Failed};
 
 impl Journalled {
@@ -51,6 +53,18 @@ impl Journalled {
         self.pending.is_some()
     }
 
+    /// Prepares the step of a record: takes all the memory that it needs. The tables say what they said.
+    pub fn prepare(&mut self, next: DaemonRecord) -> Result<Prepared, NoMemory>
+        requires { self.old.pending ≡ None }
+        ensures tables { state_of self.new.tables ≡ state_of self.old.tables }
+        ensures store { self.new.store ≡ self.old.store }
+        ensures sure { self.new.pending ≡ None }
+        ensures step { IfOk result (λ p. record_of p ≡ next) }
+        ensures ready { IfOk result (λ p. IsReady self.new.tables p) }
+    {
+        self.tables.prepare(next)
+    }
+
     /// Finds out what became of the step in doubt, if one is, and does it where its record landed: answers whether it
     /// did. It takes no memory. Where it fails, all is as before.
     pub fn settle<B: Bay>(&mut self, bay: &mut B) -> Result<bool, Failed>
@@ -62,6 +76,7 @@ impl Journalled {
         ensures kept { OnDisk (B.disk bay.old) self.old → OnDisk (B.disk bay.new) self.new }
         ensures any_moment { Works (Mine self.old.store.component) (B.disk bay.old) (B.disk bay.new) (Here (Mine self.old.store.component) (B.disk bay.old)) }
         ensures sits { Sits (B.disk bay.new) self.new }
+        ensures component { self.new.store.component ≡ self.old.store.component }
         ensures cause { HasCause (B.count bay.old) (B.count bay.new) result }
     {
         let landed = self.store.heal(bay)?;
@@ -91,6 +106,7 @@ impl Journalled {
         ensures any_moment { OnDisk (B.disk bay.old) self.old → Works (Mine self.old.store.component) (B.disk bay.old) (B.disk bay.new)
             (EitherTables self.old.store.component (state_of self.old.tables) (after_record (state_of self.old.tables) (record_of prepared))) }
         ensures sits { Sits (B.disk bay.new) self.new }
+        ensures component { self.new.store.component ≡ self.old.store.component }
         ensures cause { HasCause (B.count bay.old) (B.count bay.new) result }
     {
         match self.store.append(bay, payload) {
