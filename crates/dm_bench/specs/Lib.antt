@@ -3,3 +3,4 @@ pub mod Named
 pub mod Answers
 pub mod Entries
 pub mod Drawing
+pub mod Looks

@@ -21,3 +21,6 @@ pub use laws::{past_is_run, union_legal};
 pub use names::{Names, Owner};
 pub use note::{Arguments, CallNote, Progress};
 pub use system::System;
+
+#[cfg(test)]
+mod tests;
