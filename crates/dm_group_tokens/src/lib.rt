@@ -12,3 +12,6 @@ mod tokens;
 
 pub use mounting::{free_drives, mount_refusal};
 pub use tokens::Tokens;
+
+#[cfg(test)]
+mod tests;
