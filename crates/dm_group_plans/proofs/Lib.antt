@@ -1,0 +1,8 @@
+pub mod Lists
+pub mod Layouts
+pub mod Written
+pub mod Summing
+pub mod ByWeight
+pub mod Nearest
+pub mod Listed
+pub mod Merging

@@ -1,0 +1,20 @@
+use Rattle.std.proofs.Common.{◌≡◌, ◌∙◌, ◌∷◌, [], ap, subst, arith}
+use Rattle.std.specs.Prelude.{IfOk}
+use Rattle.dm_durable.specs.Volumes.{greatest_room}
+use Rattle.dm_group_plans.specs.Found.{live_chunk_of}
+use Rattle.dm_group_plans.proofs.Merging.{having_is}
+use Rattle.dm_model.specs.GroupCalls.{merge_to}
+use Rattle.dm_model.specs.Plan.{Plan, no_needs}
+use Rattle.dm_rules.specs.Merge.{destination}
+use Rattle.dm_verdicts.specs.Verdict.{verdict_on}
+use Rattle.dm_group_plans.proofs.merges.merge_live.Goals as goal
+
+pub returns : goal.returns
+returns c =
+    let group = c.args.library.now in
+    let l = live_chunk_of c.args.live in
+    let t = c.args.tokens in
+    let spaces = c.in_ok-spaces.ensures in
+    let plan = having_is c.args.id group c.args.merged.now l t.job t.from t.to c.destination-space.result c.greatest_room-have.result c.greatest_room-have.type_inv (c.greatest_room-have.ensures ∙ ap greatest_room (c.as_slice-2.ensures ∙ spaces))
+    ∙ ap (λ s. merge_to c.args.id group c.args.merged.now l t.job t.from t.to s) (c.destination-space.ensures ∙ ap (destination l.chunk.len) (c.as_slice.ensures ∙ spaces)) in
+    subst (λ z. IfOk c.merge_to.result (λ v. v ≡ z)) (ap (λ (p : Plan). verdict_on (record p { own = c.args.own.0 ∷ c.args.own.1 ∷ [] }) no_needs) plan) c.merge_to.ensures
