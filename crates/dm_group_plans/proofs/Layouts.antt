@@ -1,5 +1,5 @@
 -- Steps of loops that lay out a bitfile.
-use Rattle.std.proofs.Common.{◌≡◌, ℕ, zero, suc, ◌+◌, ◌-◌, ◌*◌, ◌<◌, ◌≤◌, ◌^◌, min, None, List, [], ◌∷◌, ◌++◌, refl, sym, ap, ◌∙◌, append_assoc, arith, cond}
+use Rattle.std.proofs.Common.{◌≡◌, ℕ, suc, ◌+◌, ◌-◌, ◌*◌, ◌<◌, ◌≤◌, ◌^◌, min, None, List, [], ◌∷◌, ◌++◌, sym, ap, ◌∙◌, append_assoc, arith, cond}
 use Rattle.std.proofs.lemmas.List.{append-nil}
 use Rattle.std.proofs.lemmas.Bool.{ne_eqb}
 use Rattle.dm_base.specs.declared.volume.Piece.{Piece}
@@ -75,9 +75,9 @@ pub record Cut (out : List Chunk) (chunk count : ℕ) (piece : Piece) (offset le
 pub cut_begin : (out : List Chunk) (chunk count : ℕ) (piece : Piece) (place : ℕ) → out ≡ [] → count ≡ chunk_count chunk piece.len → place ≡ piece.zone + 32 → Cut out chunk (count - 0) piece piece.offset piece.len place
 cut_begin out chunk count piece place none many there = record {
   is =
-  ap (λ cs. cs ++ chunks_at piece.version chunk (count - 0) piece piece.offset piece.len place) none
-  ∙ ap (λ n. chunks_at piece.version chunk n piece piece.offset piece.len place) (let e : count - 0 ≡ chunk_count chunk piece.len = omega (arith, many) in e)
-  ∙ ap (λ p. chunks_at piece.version chunk (chunk_count chunk piece.len) piece piece.offset piece.len p) there;
+      ap (λ cs. cs ++ chunks_at piece.version chunk (count - 0) piece piece.offset piece.len place) none
+      ∙ ap (λ n. chunks_at piece.version chunk n piece piece.offset piece.len place) (let e : count - 0 ≡ chunk_count chunk piece.len = omega (arith, many) in e)
+      ∙ ap (λ p. chunks_at piece.version chunk (chunk_count chunk piece.len) piece piece.offset piece.len p) there;
 }
 
 pub cut_on : (out more : List Chunk) (chunk count n : ℕ) (piece : Piece) (offset left place bytes next behind taken : ℕ) → count ≡ suc n → taken ≡ min chunk left → bytes ≡ place + chunk_header piece.version → next ≡ offset + taken → behind ≡ bytes + taken → more ≡ out ++ (record { offset = offset; len = taken; vsn = piece.vsn; zone = piece.zone; place = bytes; sum = None } ∷ []) → Cut out chunk count piece offset left place → Cut more chunk n piece next (left - taken) behind
@@ -94,9 +94,9 @@ cut_on out more chunk count n piece offset left place bytes next behind taken on
     ∙ ap (λ b. record { offset = offset; len = taken; vsn = piece.vsn; zone = piece.zone; place = b; sum = None } ∷ chunks_at piece.version chunk n piece (offset + taken) (left - taken) (b + taken)) is_bytes in
     record {
       is =
-      ap (λ cs. cs ++ later) grown ∙ append_assoc out (c ∷ []) later
-      ∙ ap (λ cs. out ++ cs) (same ∙ ap whole is_lesser)
-      ∙ sym (ap (λ k. out ++ chunks_at piece.version chunk k piece offset left place) one) ∙ so.is;
+          ap (λ cs. cs ++ later) grown ∙ append_assoc out (c ∷ []) later
+          ∙ ap (λ cs. out ++ cs) (same ∙ ap whole is_lesser)
+          ∙ sym (ap (λ k. out ++ chunks_at piece.version chunk k piece offset left place) one) ∙ so.is;
     }
 
 pub cut_end : (out : List Chunk) (chunk count : ℕ) (piece : Piece) (offset left place : ℕ) → count ≡ 0 → Cut out chunk count piece offset left place → out ≡ chunks_of chunk piece

@@ -1,5 +1,5 @@
 -- The chunk of a volume that lies furthest in front, found one chunk after another.
-use Rattle.std.proofs.Common.{◌≡◌, ℕ, ◌≤◌, ◌<◌, Bool, true, false, cond, List, [], ◌∷◌, ◌++◌, refl, sym, ap, ◌∙◌, arith, nat_le, Option, None, Some, filter, option_map, inl, inr}
+use Rattle.std.proofs.Common.{◌≡◌, ℕ, Bool, true, false, cond, List, [], ◌∷◌, ◌++◌, refl, sym, ap, ◌∙◌, arith, nat_le, Option, None, Some, filter, inl, inr}
 use Rattle.std.specs.Prelude as prelude
 use Rattle.std.specs.List.{flat_map}
 use Rattle.std.specs.FinMap.{entries}
@@ -18,25 +18,25 @@ among y x (Some z) =
     elim (cases_lt x.chunk.place y.chunk.place) [
       | inl l ↦ elim (cases_lt z.chunk.place x.chunk.place) [
         | inl m ↦
-          let a = lt-leb y.chunk.place x.chunk.place l in
-          let b = lt-leb x.chunk.place z.chunk.place m in
-          let c = lt-leb y.chunk.place z.chunk.place (omega arith) in
-          left false a ∙ ap (λ t. cond t x z) b ∙ sym (ap (λ t. cond t y z) c) ∙ sym (right false b)
+            let a = lt-leb y.chunk.place x.chunk.place l in
+            let b = lt-leb x.chunk.place z.chunk.place m in
+            let c = lt-leb y.chunk.place z.chunk.place (omega arith) in
+            left false a ∙ ap (λ t. cond t x z) b ∙ sym (ap (λ t. cond t y z) c) ∙ sym (right false b)
         | inr m ↦
-          let a = lt-leb y.chunk.place x.chunk.place l in
-          let b = le-leb x.chunk.place z.chunk.place m in
-          left false a ∙ ap (λ t. cond t x z) b ∙ sym (ap (λ t. cond t y x) a) ∙ sym (right true b)
+            let a = lt-leb y.chunk.place x.chunk.place l in
+            let b = le-leb x.chunk.place z.chunk.place m in
+            left false a ∙ ap (λ t. cond t x z) b ∙ sym (ap (λ t. cond t y x) a) ∙ sym (right true b)
       ]
       | inr l ↦ elim (cases_lt z.chunk.place x.chunk.place) [
         | inl m ↦
-          let a = le-leb y.chunk.place x.chunk.place l in
-          let b = lt-leb x.chunk.place z.chunk.place m in
-          left true a ∙ sym (right false b)
+            let a = le-leb y.chunk.place x.chunk.place l in
+            let b = lt-leb x.chunk.place z.chunk.place m in
+            left true a ∙ sym (right false b)
         | inr m ↦
-          let a = le-leb y.chunk.place x.chunk.place l in
-          let b = le-leb x.chunk.place z.chunk.place m in
-          let c = le-leb y.chunk.place z.chunk.place (omega arith) in
-          left true a ∙ ap (λ t. cond t y z) c ∙ sym (ap (λ t. cond t y x) a) ∙ sym (right true b)
+            let a = le-leb y.chunk.place x.chunk.place l in
+            let b = le-leb x.chunk.place z.chunk.place m in
+            let c = le-leb y.chunk.place z.chunk.place (omega arith) in
+            left true a ∙ ap (λ t. cond t y z) c ∙ sym (ap (λ t. cond t y x) a) ∙ sym (right true b)
       ]
     ]
   where

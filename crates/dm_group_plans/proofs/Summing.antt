@@ -1,6 +1,6 @@
 -- Sums that stand at the last number of 128 bits, and what they tell of the sums themselves.
-use Rattle.std.proofs.Common.{◌≡◌, ℕ, zero, suc, ◌+◌, ◌-◌, ◌*◌, ◌<◌, ◌≤◌, ◌^◌, min, List, [], ◌∷◌, refl, sym, ap, ◌∙◌, arith, nat_lt, Bool, true, false, cond, inl, inr, Ordering, filter, sum_by}
-use Rattle.std.specs.FinMap.{FinMap, entries}
+use Rattle.std.proofs.Common.{◌≡◌, ℕ, ◌+◌, ◌-◌, ◌*◌, ◌<◌, ◌^◌, min, List, [], ◌∷◌, refl, sym, ap, ◌∙◌, arith, nat_lt, Bool, true, false, cond, inl, inr, filter}
+use Rattle.std.specs.FinMap.{entries}
 use Rattle.std.proofs.lemmas.Bool.{cases_lt, lt-ltb, le-ltb}
 use Rattle.std.proofs.lemmas.List.Sums.{sum_by-cons}
 use Rattle.std.proofs.lemmas.Nat.{mul-lt}
@@ -36,8 +36,8 @@ summing_end sum left whole none so =
 pub measuring_on : (extra : ℕ) (vsn : List ℕ) (cs rest : List Chunk) (c : Chunk) (sum more whole : ℕ) → cs ≡ c ∷ rest → more ≡ cond (is_on vsn c) (summed (sum + (extra + c.len))) sum → more < 2 ^ 128 → Summing sum (measure_in extra vsn cs) whole → Summing more (measure_in extra vsn rest) whole
 measuring_on extra vsn cs rest c sum more whole is is_more small so = record {
   is =
-  ap (λ m. summed (m + measure_in extra vsn rest)) is_more ∙ either (is_on vsn c)
-  ∙ sym (ap (λ l. summed (sum + measure_in extra vsn l)) is) ∙ so.is;
+      ap (λ m. summed (m + measure_in extra vsn rest)) is_more ∙ either (is_on vsn c)
+      ∙ sym (ap (λ l. summed (sum + measure_in extra vsn l)) is) ∙ so.is;
   small = small;
 }
   where

@@ -1,5 +1,5 @@
 -- Loops over pieces: the zones that were written of them, their sums and their chunks.
-use Rattle.std.proofs.Common.{◌≡◌, ℕ, zero, suc, ◌+◌, ◌<◌, ◌≤◌, List, [], ◌∷◌, ◌++◌, length, drop, take, get_or, slice_get, refl, sym, ap, ◌∙◌, append_assoc, arith, Bool, true, false, cond, ◌&&◌, Option, Some, None}
+use Rattle.std.proofs.Common.{◌≡◌, ℕ, ◌+◌, List, [], ◌∷◌, ◌++◌, length, drop, slice_get, refl, sym, ap, ◌∙◌, append_assoc, Bool, true, false, cond, ◌&&◌}
 use Rattle.std.specs.Prelude as prelude
 use Rattle.std.specs.FinMap as map
 use Rattle.std.specs.List.{flat_map}
@@ -10,7 +10,7 @@ use Rattle.dm_durable.specs.Tables.{ByNumber}
 use Rattle.dm_group_plans.specs.Found.{with_sum}
 use Rattle.dm_model.specs.declared.state.Reserved.{Reserved}
 use Rattle.dm_model.specs.declared.state.WrittenZone.{WrittenZone}
-use Rattle.dm_model.specs.GroupCalls.{are_written, is_zone_of, piece_sums, summed_chunks, with_sums}
+use Rattle.dm_model.specs.GroupCalls.{are_written, is_zone_of, summed_chunks, with_sums}
 use Rattle.dm_rules.specs.Plan.{chunks_of}
 use Rattle.dm_rules.specs.Version.{has_sum}
 

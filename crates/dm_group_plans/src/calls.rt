@@ -18,7 +18,9 @@ use crate::reuses::{free, reuse, reuse_next};
 use crate::rows::{all_rows, volumes};
 use dm_base::{GroupId, NoMemory};
 use dm_durable::VolumeRow;
-use dm_model::{Answer, Group, GroupCall, Guard, History, Mounted, Moving, Reserved, Reusing, Side, Worker};
+use dm_model::{
+    Answer, Group, GroupCall, Guard, History, Mounted, Moving, Reserved, Reusing, Side, Worker,
+};
 use dm_verdicts::{Verdict, judge};
 use std::alloc::Global;
 

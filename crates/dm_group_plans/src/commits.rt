@@ -264,11 +264,7 @@ fn sums_left(sums: &[[u8; 32]], count: usize, version: u8) -> &[[u8; 32]]
 }
 
 // Puts chunks with these sums, as far as there are any, behind what is there.
-fn put_chunks(
-    out: &mut Vec<Chunk>,
-    chunks: &[Chunk],
-    sums: &[[u8; 32]],
-) -> Result<(), NoMemory>
+fn put_chunks(out: &mut Vec<Chunk>, chunks: &[Chunk], sums: &[[u8; 32]]) -> Result<(), NoMemory>
     ensures { OnOk result (out.new.items ≡ out.old.items ++ with_sums chunks.now sums.now) }
 {
     let mut left = sums;

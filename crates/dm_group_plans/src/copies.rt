@@ -180,12 +180,7 @@ fn is_unmounted(number: u64, reservation: Option<&CopyReservation>) -> bool
     }
 }
 
-pub(crate) fn abort(
-    side: &Side,
-    id: GroupId,
-    number: u64,
-    reserved: Option<&Reserved>,
-) -> Verdict
+pub(crate) fn abort(side: &Side, id: GroupId, number: u64, reserved: Option<&Reserved>) -> Verdict
     ensures { result ≡ verdict_on (abort_plan id number (option_copied reserved.entry)) (abort_needs side.now.copies number (option_copied reserved.entry)) }
 {
     let Some(reserved) = reserved else {
@@ -202,7 +197,11 @@ pub(crate) fn abort(
         },
         ..group_quiet_plan(id, Answer::Aborted)
     };
-    judge(&[unmounted], &[unmounted, (false, Guard::DeviceUsed)], prepared)
+    judge(
+        &[unmounted],
+        &[unmounted, (false, Guard::DeviceUsed)],
+        prepared,
+    )
 }
 
 pub(crate) fn delete(

@@ -215,11 +215,7 @@ fn are_there(volumes: &Texts<VolumeRow>, merged: &[Vsn]) -> bool
 }
 
 // The volumes that may take a chunk in a merge of this list.
-fn target_spaces(
-    alloc: Global,
-    library: &Group,
-    merged: &[Vsn],
-) -> Result<Listed<Space>, NoMemory>
+fn target_spaces(alloc: Global, library: &Group, merged: &[Vsn]) -> Result<Listed<Space>, NoMemory>
     ensures { IfOk result (λ spaces. spaces ≡ target_spaces_of (usage_of library.now) merged.now library.now.tables.volumes) }
 {
     let targets = TargetSpaces { library, merged };

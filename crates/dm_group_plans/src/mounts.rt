@@ -10,7 +10,6 @@ ghost use Rattle.dm_model.specs.Volumes.{epoch_of as epoch_of_volume};
 ghost use Rattle.dm_model.specs.declared.plan.Opening.TheVariants as opening;
 ghost use Rattle.dm_verdicts.specs.Verdict.{verdict_on};
 
-
 use crate::prepared::{
     group_healing_plan, group_quiet_plan, is_new, no_token, no_token_with, refused_plan,
 };
@@ -49,13 +48,7 @@ pub(crate) fn mount_new(library: &Group, id: GroupId, vsn: Vsn, number: u64) -> 
 }
 
 // The mount that is made, under the epoch that the volume has.
-fn mount_opening(
-    library: &Group,
-    id: GroupId,
-    number: u64,
-    vsn: Vsn,
-    origin: Origin,
-) -> Opening
+fn mount_opening(library: &Group, id: GroupId, number: u64, vsn: Vsn, origin: Origin) -> Opening
     ensures { result ≡ opening.Mount id number vsn (epoch_of_volume library.now vsn.0) origin }
 {
     Opening::Mount {

@@ -12,9 +12,7 @@ ghost use Rattle.dm_verdicts.specs.Verdict.{verdict_on};
 use crate::prepared::{group_quiet_plan, journal_payload, no_token_with, step_plan};
 use dm_base::{GroupId, Secs, Vsn};
 use dm_durable::{GroupStep, VolumeRow};
-use dm_model::{
-    Answer, Ending, Group, Guard, Label, MountState, Mounted, Origin, Prepared,
-};
+use dm_model::{Answer, Ending, Group, Guard, Label, MountState, Mounted, Origin, Prepared};
 use dm_tables::{Test, Texts};
 use dm_verdicts::{Verdict, guarded, judge};
 

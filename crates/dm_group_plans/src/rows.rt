@@ -42,10 +42,7 @@ fn rows_of(alloc: Global, library: &Group) -> Result<GroupRows, NoMemory>
 }
 
 // The volumes by serial number.
-fn volume_facts(
-    alloc: Global,
-    volumes: &Texts<VolumeRow>,
-) -> Result<Listed<VolFact>, NoMemory>
+fn volume_facts(alloc: Global, volumes: &Texts<VolumeRow>) -> Result<Listed<VolFact>, NoMemory>
     ensures { IfOk result (λ facts. facts ≡ prelude.map (λ e. volume_fact_of e.0 e.1) (map.entries volumes.now)) }
 {
     let mut facts = Vec::new(alloc);
@@ -71,10 +68,7 @@ fn volume_fact(text: &Bytes, row: &VolumeRow) -> Result<VolFact, NoMemory>
 }
 
 // The bitfiles by identifier.
-fn bitfile_rows(
-    alloc: Global,
-    bitfiles: &Numbers<BitfileRow>,
-) -> Result<Listed<BitRow>, NoMemory>
+fn bitfile_rows(alloc: Global, bitfiles: &Numbers<BitfileRow>) -> Result<Listed<BitRow>, NoMemory>
     ensures { IfOk result (λ rows. rows ≡ prelude.map (λ e. bitfile_row_of e.0 e.1) (map.entries bitfiles.now)) }
 {
     let mut rows = Vec::new(alloc);

@@ -1,4 +1,3 @@
-use Rattle.std.proofs.Common.{refl}
 use Rattle.std.proofs.lemmas.List.{drop_all}
 use Rattle.dm_model.specs.GroupCalls.{piece_sums}
 use Rattle.dm_group_plans.proofs.Lists.{drop_next, no_piece}

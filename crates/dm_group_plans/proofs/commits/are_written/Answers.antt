@@ -1,4 +1,4 @@
-use Rattle.std.proofs.Common.{[], ap, sym, ◌∙◌, drop, refl}
+use Rattle.std.proofs.Common.{ap, sym, ◌∙◌, drop, refl}
 use Rattle.std.proofs.lemmas.List.{drop_all}
 use Rattle.dm_group_plans.proofs.Lists.{drop_next_of, no_piece}
 use Rattle.dm_group_plans.proofs.Written.{written_on, written_not, written_end}

@@ -1,4 +1,4 @@
-use Rattle.std.proofs.Common.{◌≡◌, ◌∙◌, ◌∷◌, [], ap, subst, arith}
+use Rattle.std.proofs.Common.{◌≡◌, ◌∙◌, ◌∷◌, [], ap, subst}
 use Rattle.std.specs.Prelude.{IfOk}
 use Rattle.dm_durable.specs.Volumes.{greatest_room}
 use Rattle.dm_group_plans.specs.Found.{live_chunk_of}

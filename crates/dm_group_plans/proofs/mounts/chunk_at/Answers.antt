@@ -1,6 +1,5 @@
-use Rattle.std.proofs.Common.{None, []}
 use Rattle.std.proofs.lemmas.List.{drop_all}
-use Rattle.dm_base.specs.declared.volume.Chunk.{Chunk}
+
 use Rattle.dm_group_plans.proofs.Lists.{drop_next, no_chunk, chunk_on, chunk_here, chunk_end}
 use Rattle.dm_group_plans.proofs.mounts.chunk_at.Goals as goal
 
