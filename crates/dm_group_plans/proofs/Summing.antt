@@ -1,5 +1,5 @@
 -- Sums that stand at the last number of 128 bits, and what they tell of the sums themselves.
-use Rattle.std.proofs.Common.{◌≡◌, ℕ, ◌+◌, ◌-◌, ◌*◌, ◌<◌, ◌^◌, min, List, [], ◌∷◌, refl, sym, ap, ◌∙◌, arith, nat_lt, Bool, true, false, cond, inl, inr, filter}
+use Rattle.std.proofs.Common.{◌≡◌, ℕ, ◌+◌, ◌*◌, ◌<◌, ◌^◌, min, List, [], ◌∷◌, refl, sym, ap, ◌∙◌, arith, nat_lt, Bool, true, false, cond, inl, inr, filter}
 use Rattle.std.specs.FinMap.{entries}
 use Rattle.std.proofs.lemmas.Bool.{cases_lt, lt-ltb, le-ltb}
 use Rattle.std.proofs.lemmas.List.Sums.{sum_by-cons}

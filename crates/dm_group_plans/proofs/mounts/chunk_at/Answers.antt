@@ -1,5 +1,4 @@
 use Rattle.std.proofs.lemmas.List.{drop_all}
-
 use Rattle.dm_group_plans.proofs.Lists.{drop_next, no_chunk, chunk_on, chunk_here, chunk_end}
 use Rattle.dm_group_plans.proofs.mounts.chunk_at.Goals as goal
 
