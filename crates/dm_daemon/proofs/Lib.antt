@@ -1,0 +1,5 @@
+pub mod Moments
+pub mod Calling
+pub mod Accepted
+pub mod Always
+pub mod Alike

@@ -1,0 +1,4 @@
+pub mod State
+pub mod Always
+pub mod Calls
+pub mod Changed
