@@ -3,3 +3,4 @@ pub mod Calling
 pub mod Accepted
 pub mod Always
 pub mod Alike
+pub mod Beginning

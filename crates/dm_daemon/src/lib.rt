@@ -16,3 +16,6 @@ mod recalls;
 
 pub use daemon::Daemon;
 pub use laws::always_ready;
+
+#[cfg(test)]
+mod tests;
