@@ -4,3 +4,4 @@ mod Placing
 mod Loops
 mod Moving
 mod Weighing
+pub mod Queueing

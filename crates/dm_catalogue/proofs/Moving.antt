@@ -56,7 +56,7 @@ set_joins from (x ∷ cs) end zero c to joins there begins long =
 set_joins from (x ∷ cs) end (suc at) c to joins there begins long =
     (joins.0, joins.1, set_joins (from + x.len) cs end at c to joins.2 there begins long)
 
-put_is : (at : ℕ) (to c : Chunk) (cs : List Chunk) → slice_get cs at ≡ Some c → put_at at to cs ≡ slice_set cs at to
+pub put_is : (at : ℕ) (to c : Chunk) (cs : List Chunk) → slice_get cs at ≡ Some c → put_at at to cs ≡ slice_set cs at to
 put_is at to c cs there = ap (λ t. cond t (slice_set cs at to) cs) (lt-ltb at (length cs) (slice_get_within cs at c there))
 
 put_whole : (r : BitfileRow) (at : ℕ) (c to : Chunk) → IsWhole r → slice_get r.chunks at ≡ Some c → to.offset ≡ c.offset → to.len ≡ c.len → IsWhole (with_chunk_at at to r)

@@ -9,6 +9,7 @@ use Rattle.dm_durable.specs.Group.{has_chunk_on, is_on}
 use Rattle.dm_durable.specs.GroupConditions.{Joins}
 use Rattle.dm_durable.specs.Tables.{ByName, ByNumber}
 use Rattle.dm_durable.specs.Volumes.{live_in, live_on}
+use Rattle.dm_places.specs.Queues.{count_in}
 use Rattle.dm_tables.specs.Rows.{EachRow, adjust}
 use Rattle.dm_tables.specs.Totals.{sum_of, total, weight_at}
 use Rattle.dm_tables.proofs.Orders.{numbers, paths, same_or}
@@ -18,7 +19,7 @@ use Rattle.dm_tables.proofs.Adjusted.{adjusted-here, adjusted-beside}
 use Rattle.dm_tables.proofs.Any.{any-true, any-false}
 use Rattle.dm_tables.proofs.Sums.{total-entries, total-empty, total-insert, total-remove, row-le-total, total-same}
 use Rattle.dm_catalogue.specs.declared.homes.Live.{Live}
-use Rattle.dm_catalogue.specs.Sums.{IsWhole, KeepsHomes, Known, Same, Summed, bytes_at, chunks_at, count_in, count_on, with_all, with_fewer, with_more, without_all}
+use Rattle.dm_catalogue.specs.Sums.{IsWhole, KeepsHomes, Known, Same, Summed, bytes_at, chunks_at, count_on, with_all, with_fewer, with_more, without_all}
 use Rattle.dm_catalogue.proofs.Texts.{not_on, on_its}
 
 -- ---- a measure of chunks, and what is kept of it

@@ -13,11 +13,12 @@ use Rattle.dm_rules.specs.Merge.{weights}
 use Rattle.dm_rules.specs.Numbers.{as_word}
 use Rattle.dm_rules.specs.Version.{chunk_header}
 use Rattle.dm_rules.specs.Zone.{weight, zone_header}
+use Rattle.dm_places.specs.Queues.{count_in}
 use Rattle.dm_tables.specs.Totals.{sum_of, total}
 use Rattle.dm_tables.proofs.Any.{any-true, any-false}
 use Rattle.dm_tables.proofs.Orders.{numbers}
 use Rattle.dm_tables.proofs.Sums.{total-entries, row-le-total, total-same}
-use Rattle.dm_catalogue.specs.Sums.{count_in, count_on}
+use Rattle.dm_catalogue.specs.Sums.{count_on}
 
 -- what the front of a zone of one chunk takes
 abbrev pub front_of : ℕ → ℕ

@@ -8,6 +8,7 @@ use Rattle.dm_durable.specs.Group.{chunk_at, is_on}
 use Rattle.dm_durable.specs.GroupConditions.{Joins}
 use Rattle.dm_durable.specs.Tables.{ByName, ByNumber}
 use Rattle.dm_durable.specs.Volumes.{live_on}
+use Rattle.dm_places.specs.Queues.{count_in}
 use Rattle.dm_tables.specs.Rows.{adjust}
 use Rattle.dm_tables.specs.Totals.{total}
 use Rattle.dm_catalogue.specs.declared.homes.Live.{Live}
@@ -48,11 +49,6 @@ FitsInPlace None to = Unit {0}
 FitsInPlace (Some c) to = to.len ≡ c.len
 
 -- ---- sums over bitfiles
-
--- how many of a bitfile's chunks stand on the volume
-abbrev pub count_in : List ℕ → List Chunk → ℕ
-count_in vsn [] = 0
-count_in vsn (c ∷ cs) = cond (is_on vsn c) (1 + count_in vsn cs) (count_in vsn cs)
 
 -- how many of all chunks do
 abbrev pub count_on : ByNumber BitfileRow → List ℕ → ℕ

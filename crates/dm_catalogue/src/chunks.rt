@@ -7,11 +7,19 @@ ghost use Rattle.dm_durable.specs.Group.{chunk_at};
 ghost use Rattle.dm_rows.specs.Places.{place_of};
 ghost use Rattle.dm_catalogue.specs.Sums.{by_offset, put_at};
 
-use dm_base::{Chunk, Listed};
+use dm_base::{Bfid, Chunk, Listed};
 use dm_durable::BitfileRow;
 use dm_rows::Edit;
 use std::alloc::Global;
 use std::mem;
+
+/// A chunk on a volume, with whose it is and the length of that bitfile.
+#[derive(Clone, Copy, Debug, PartialEq, Eq)]
+pub struct LiveChunk {
+    pub bfid: Bfid,
+    pub total: u64,
+    pub chunk: Chunk,
+}
 
 // Where the chunk that begins at the offset stands, or where it would have to be put.
 pub(crate) fn place(chunks: &[Chunk], offset: u64) -> Result<usize, usize>

@@ -8,7 +8,11 @@
 //! change of the bitfiles goes through three private functions, one that takes a bitfile out, one that puts one in and
 //! one that moves a chunk; all keep the two, so no caller can leave them behind.
 //!
-//! No call but `reserve` and `know` takes memory.
+//! Of each volume there is a queue of the places of its chunks too, by which a merge finds the chunk that it moves next
+//! with no look at the others.
+//!
+//! No call but `reserve` and `know` takes memory. What they keep is for one bitfile, and for the chunks that they are told
+//! of: whoever reserves for several has room for all of them, and gives back what isn't used (`give_back`, `forget`).
 #![tactic(auto)]
 
 mod catalogue;
@@ -16,6 +20,7 @@ mod chunks;
 mod homes;
 
 pub use catalogue::Catalogue;
+pub use chunks::LiveChunk;
 
 #[cfg(test)]
 mod tests;

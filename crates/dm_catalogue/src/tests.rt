@@ -34,7 +34,7 @@ fn commit(catalogue: &mut Catalogue, alloc: Global, bfid: Bfid) -> Result<(), No
     let chunks = Listed::from_vec(Vec::from_slice(alloc, &chunks)?);
     let row = Box::new(alloc, (bfid.0, BitfileRow { len: 260, chunks }))?;
     catalogue.know(row.1.chunks.as_slice())?;
-    catalogue.reserve(1)?;
+    catalogue.reserve()?;
     catalogue.insert(row);
     Ok(())
 }

@@ -2,18 +2,19 @@
 
 ghost use Rattle.std.specs.Prelude.{◌≡◌};
 ghost use Rattle.dm_durable.specs.Group.{group_after_record, group_after_step};
-ghost use Rattle.dm_group_tables.specs.Prepared.{IsReady, IsReadyFor, record_of, step_of};
+ghost use Rattle.dm_group_tables.specs.Prepared.{IsReady, IsReadyFor, UsesRoom, record_of, step_of};
 ghost use Rattle.dm_group_tables.specs.Tables.{state_of};
 
 use crate::prepared::{Prepared, Step};
 use crate::tables::Tables;
 
 impl Tables {
-    /// Does the step: the tables are those after its record. It takes no memory and can't be refused
-    /// (docs/DEFINITIONS.md, "A group's tables in memory").
+    /// Does the step: the tables are those after its record, and what is kept for other steps is kept still. It takes no
+    /// memory and can't be refused (docs/DEFINITIONS.md, "A group's tables in memory").
     pub fn apply(&mut self, prepared: Prepared)
         requires { IsReady self.old prepared }
-        ensures { state_of self.new ≡ group_after_record (state_of self.old) (record_of prepared) }
+        ensures state { state_of self.new ≡ group_after_record (state_of self.old) (record_of prepared) }
+        ensures room { UsesRoom self.old prepared.step self.new }
     {
         let Prepared { time, step } = prepared;
         self.time = time;
@@ -23,7 +24,8 @@ impl Tables {
     // The step, at the time that the tables have.
     fn do_step(&mut self, step: Step)
         requires { IsReadyFor self.old step }
-        ensures { state_of self.new ≡ group_after_step (state_of self.old) (step_of step) }
+        ensures state { state_of self.new ≡ group_after_step (state_of self.old) (step_of step) }
+        ensures room { UsesRoom self.old step self.new }
     {
         match step {
             Step::Volume {
@@ -46,7 +48,10 @@ impl Tables {
                 vsn,
                 epoch,
                 version,
-            } => self.volumes.reuse(vsn, epoch, version),
+            } => {
+                self.volumes.reuse(vsn, epoch, version);
+                self.catalogue.clear(vsn);
+            }
         }
     }
 }

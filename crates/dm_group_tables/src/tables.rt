@@ -4,15 +4,16 @@ ghost use Rattle.std.specs.Prelude.{◌≡◌, option_map, slice_get};
 ghost use Rattle.std.specs.Option.{option_copied};
 ghost use Rattle.std.specs.FinMap as map;
 ghost use Rattle.dm_base.specs.Limits.{volumes_limit};
+ghost use Rattle.dm_catalogue.specs.Merging.{live_of};
 ghost use Rattle.dm_catalogue.specs.Sums.{chunk_in};
 ghost use Rattle.dm_durable.specs.Group.{empty_group, has_chunk_on as has_chunk_on_of};
-ghost use Rattle.dm_durable.specs.Volumes.{free_slot as free_slot_of, live_on, weight_on};
+ghost use Rattle.dm_durable.specs.Volumes.{first_on as first_on_of, free_slot as free_slot_of, live_on, weight_on};
 ghost use Rattle.dm_rules.specs.Numbers.{as_word};
 ghost use Rattle.dm_tables.specs.Rows.{row_after};
-ghost use Rattle.dm_group_tables.specs.Tables.{state_of};
+ghost use Rattle.dm_group_tables.specs.Tables.{UsesNoRoom, state_of};
 
 use dm_base::{Bfid, Chunk, GroupId, Secs, Vsn};
-use dm_catalogue::Catalogue;
+use dm_catalogue::{Catalogue, LiveChunk};
 use dm_durable::{BitfileRow, VolumeRow};
 use dm_volumes::Volumes;
 use std::alloc::Global;
@@ -137,5 +138,15 @@ impl Tables {
         ensures { result ≡ has_chunk_on_of (state_of self.now).bitfiles vsn.0 }
     {
         self.catalogue.has_chunk_on(vsn)
+    }
+
+    /// The chunk on the volume that a merge moves next: the one that lies furthest in front, the first of two at one place.
+    /// No other chunk is looked at, and no memory is taken.
+    pub fn first_on(&mut self, vsn: Vsn) -> Option<LiveChunk>
+        ensures first { option_map live_of result ≡ first_on_of (state_of self.old).bitfiles vsn.0 }
+        ensures same { state_of self.new ≡ state_of self.old }
+        ensures room { UsesNoRoom self.old self.new }
+    {
+        self.catalogue.first_on(vsn)
     }
 }

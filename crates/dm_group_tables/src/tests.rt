@@ -139,3 +139,30 @@ fn a_volume_is_freed_and_used_anew(rt: HostRuntime) -> Result<(), Fail> {
     assert!(rt; empty);
     Ok(())
 }
+
+#[test]
+fn a_merge_begins_with_the_chunk_furthest_in_front(rt: HostRuntime) -> Result<(), Fail> {
+    let mut tables = one_bitfile(rt.alloc())?;
+    let first = tables.first_on(ONE).is_some_and(|live| live.bfid == Bfid(7)
+        && live.total == 150
+        && live.chunk.place == 144);
+    assert!(rt; first);
+    assert!(rt; tables.first_on(TWO).is_none());
+    Ok(())
+}
+
+#[test]
+fn a_step_that_is_abandoned_is_not_done(rt: HostRuntime) -> Result<(), Fail> {
+    let mut tables = Tables::empty(rt.alloc(), GroupId(3));
+    let step = GroupStep::Volume {
+        vsn: ONE,
+        slot: 0,
+        version: 1,
+        size: 4096,
+    };
+    let time = Secs(100);
+    let prepared = tables.prepare(GroupRecord { time, step })?;
+    tables.abandon(prepared);
+    assert_eq!(rt; tables.volumes(), 0);
+    Ok(())
+}
