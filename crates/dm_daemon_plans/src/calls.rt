@@ -1,11 +1,16 @@
 //! All calls of the daemon.
 
-ghost use Rattle.std.specs.Prelude.{◌≡◌, IfOk};
+ghost use Rattle.std.specs.Prelude.{◌≡◌, IfOk, IsErrOf};
 ghost use Rattle.std.specs.FinMap as finmap;
 ghost use Rattle.std.specs.Option.{option_copied, option_map};
 ghost use Rattle.dm_daemon_plans.specs.Found.{numbered};
-ghost use Rattle.dm_model.specs.DaemonCalls.{attributes as attributes_plan, daemon_needs, daemon_plan};
+ghost use Rattle.dm_daemon_plans.specs.Parts.{part_of};
+ghost use Rattle.dm_daemon_plans.specs.Parts.Part.{Changes, Deletes, Dumps, Puts, Recalls};
+ghost use Rattle.dm_daemon_plans.specs.Range.{IsDaemonInRange};
+ghost use Rattle.dm_model.specs.DaemonCalls.{attributes as attributes_plan, daemon_healing_plan as daemon_healing_plan_of, daemon_needs, daemon_plan};
+ghost use Rattle.dm_model.specs.Files.{all_rows as all_rows_of, file_at as file_at_of};
 ghost use Rattle.dm_model.specs.Plan.{no_needs};
+ghost use Rattle.dm_model.specs.declared.answer.Answer.TheVariants as answer;
 ghost use Rattle.dm_verdicts.specs.Verdict.{verdict_on};
 
 use crate::deletes::{dropped, hard_delete, next_dropping};
@@ -19,12 +24,12 @@ use dm_base::{DaemonError, NoMemory, Path};
 use dm_durable::Inode;
 use dm_model::{Answer, Daemon, DaemonCall, History, OpenRequest, Side, Worker};
 use dm_tables::Numbers;
-use dm_verdicts::{Verdict, legal};
+use dm_verdicts::{Verdict, VerdictError, legal};
 use std::alloc::Global;
 
 /// The verdict on a call of the daemon: the lowest guard of it that is false, and what it comes to. The worker is the one that
-/// calls, if anything is known of it. `NoMemory` where memory is refused, and where all files are listed and a name in the
-/// tables is no path, which comes in no run (docs/DEFINITIONS.md, "The machine, whole").
+/// calls, if anything is known of it (docs/DEFINITIONS.md, "The machine, whole"). `OutOfRange` comes only where a name in the tables
+/// is no path, which comes in no run; then no list of all files could say what the definition does. `NoMemory` only where memory is refused.
 pub fn daemon_verdict(
     alloc: Global,
     sides: &Numbers<Side>,
@@ -32,9 +37,54 @@ pub fn daemon_verdict(
     history: &History,
     daemon: &Daemon,
     call: &DaemonCall,
-) -> Result<Verdict, NoMemory>
-    ensures { IfOk result (λ v. v ≡ verdict_on (daemon_plan daemon.now call.now) (daemon_needs sides.now (option_copied worker.entry) history.now daemon.now call.now)) }
+) -> Result<Verdict, VerdictError>
+    ensures verdict { IfOk result (λ v. v ≡ verdict_on (daemon_plan daemon.now call.now) (daemon_needs sides.now (option_copied worker.entry) history.now daemon.now call.now)) }
+    ensures range { IsErrOf result VerdictError.OutOfRange → IsDaemonInRange daemon.now → ⊥ }
 {
+    let looked = Looked {
+        sides,
+        worker,
+        history,
+        daemon,
+    };
+    match call {
+        DaemonCall::BeginPut { .. } | DaemonCall::CopyStored { .. } | DaemonCall::EndPut { .. } =>
+            Ok(put_verdict(alloc, &looked, call)?),
+        DaemonCall::BeginRecall { .. }
+        | DaemonCall::EndRecall { .. }
+        | DaemonCall::DropRecall { .. } => Ok(recall_verdict(alloc, &looked, call)?),
+        DaemonCall::Write { .. }
+        | DaemonCall::Patch { .. }
+        | DaemonCall::Remove { .. }
+        | DaemonCall::Release { .. } => Ok(change_verdict(alloc, &looked, call)?),
+        DaemonCall::MakeDump { .. }
+        | DaemonCall::Undump { .. }
+        | DaemonCall::Restore { .. }
+        | DaemonCall::SetAge { .. } => Ok(dump_verdict(alloc, &looked, call)?),
+        DaemonCall::HardDelete { .. }
+        | DaemonCall::NextDropping { .. }
+        | DaemonCall::Dropped { .. } => Ok(delete_verdict(alloc, &looked, call)?),
+        DaemonCall::Attributes { path } => Ok(attributes(alloc, daemon, path)?),
+        DaemonCall::List => list(alloc, daemon),
+    }
+}
+
+// What a call is looked at with.
+#[derive(Drop)]
+struct Looked<'a> {
+    sides: &'a Numbers<Side>,
+    worker: Option<&'a Worker>,
+    history: &'a History,
+    daemon: &'a Daemon,
+}
+
+// A call of a put.
+fn put_verdict(alloc: Global, looked: &Looked, call: &DaemonCall) -> Result<Verdict, NoMemory>
+    requires { part_of call.now ≡ Puts }
+    ensures { IfOk result (λ v. v ≡ verdict_on (daemon_plan looked.now.daemon.now call.now) (daemon_needs looked.now.sides.now (option_copied looked.now.worker) looked.now.history.now looked.now.daemon.now call.now)) }
+{
+    let sides = looked.sides;
+    let daemon = looked.daemon;
     match call {
         DaemonCall::BeginPut {
             path,
@@ -51,15 +101,23 @@ pub fn daemon_verdict(
             now,
         } => {
             let open = request_at(daemon, *request);
-            Ok(copy_stored(history, daemon, *group, *now, open))
+            Ok(copy_stored(looked.history, daemon, *group, *now, open))
         }
         DaemonCall::EndPut { request, now } => {
             let open = request_at(daemon, *request);
             end_put(alloc, sides, daemon, *request, *now, open)
         }
-        DaemonCall::Release { path, now } => {
-            release(alloc, daemon, path, *now, file_at(daemon, path))
-        }
+        _ => unreachable!(),
+    }
+}
+
+// A call of a recall.
+fn recall_verdict(alloc: Global, looked: &Looked, call: &DaemonCall) -> Result<Verdict, NoMemory>
+    requires { part_of call.now ≡ Recalls }
+    ensures { IfOk result (λ v. v ≡ verdict_on (daemon_plan looked.now.daemon.now call.now) (daemon_needs looked.now.sides.now (option_copied looked.now.worker) looked.now.history.now looked.now.daemon.now call.now)) }
+{
+    let daemon = looked.daemon;
+    match call {
         DaemonCall::BeginRecall { path, request } => {
             begin_recall(alloc, daemon, *request, file_at(daemon, path))
         }
@@ -69,12 +127,23 @@ pub fn daemon_verdict(
             now,
         } => {
             let open = request_at(daemon, *request);
-            end_recall(alloc, worker, daemon, *request, bytes, *now, open)
+            end_recall(alloc, looked.worker, daemon, *request, bytes, *now, open)
         }
         DaemonCall::DropRecall { request } => {
             let open = request_at(daemon, *request);
-            Ok(drop_recall(worker, *request, open, daemon))
+            Ok(drop_recall(looked.worker, *request, open, daemon))
         }
+        _ => unreachable!(),
+    }
+}
+
+// A call that changes a file, or releases its bytes.
+fn change_verdict(alloc: Global, looked: &Looked, call: &DaemonCall) -> Result<Verdict, NoMemory>
+    requires { part_of call.now ≡ Changes }
+    ensures { IfOk result (λ v. v ≡ verdict_on (daemon_plan looked.now.daemon.now call.now) (daemon_needs looked.now.sides.now (option_copied looked.now.worker) looked.now.history.now looked.now.daemon.now call.now)) }
+{
+    let daemon = looked.daemon;
+    match call {
         DaemonCall::Write { path, bytes, now } => {
             write(alloc, daemon, path, bytes, *now, file_at(daemon, path))
         }
@@ -90,6 +159,20 @@ pub fn daemon_verdict(
         DaemonCall::Remove { path, now } => {
             remove(alloc, daemon, path, *now, file_at(daemon, path))
         }
+        DaemonCall::Release { path, now } => {
+            release(alloc, daemon, path, *now, file_at(daemon, path))
+        }
+        _ => unreachable!(),
+    }
+}
+
+// A call on dumps.
+fn dump_verdict(alloc: Global, looked: &Looked, call: &DaemonCall) -> Result<Verdict, NoMemory>
+    requires { part_of call.now ≡ Dumps }
+    ensures { IfOk result (λ v. v ≡ verdict_on (daemon_plan looked.now.daemon.now call.now) (daemon_needs looked.now.sides.now (option_copied looked.now.worker) looked.now.history.now looked.now.daemon.now call.now)) }
+{
+    let daemon = looked.daemon;
+    match call {
         DaemonCall::MakeDump { name, now } => make_dump(alloc, daemon, name, *now),
         DaemonCall::Undump { name, now } => undump(alloc, daemon, name, *now),
         DaemonCall::Restore {
@@ -102,19 +185,24 @@ pub fn daemon_verdict(
             restore(alloc, daemon, name, path, target, *now, dump)
         }
         DaemonCall::SetAge { age, now } => Ok(set_age(daemon, *age, *now)),
+        _ => unreachable!(),
+    }
+}
+
+// A call of a hard delete.
+fn delete_verdict(alloc: Global, looked: &Looked, call: &DaemonCall) -> Result<Verdict, NoMemory>
+    requires { part_of call.now ≡ Deletes }
+    ensures { IfOk result (λ v. v ≡ verdict_on (daemon_plan looked.now.daemon.now call.now) (daemon_needs looked.now.sides.now (option_copied looked.now.worker) looked.now.history.now looked.now.daemon.now call.now)) }
+{
+    let daemon = looked.daemon;
+    match call {
         DaemonCall::HardDelete { now } => hard_delete(alloc, daemon, *now),
         DaemonCall::NextDropping { after } => next_dropping(alloc, daemon, *after),
         DaemonCall::Dropped { bfid, now } => {
             let entry = daemon.tables.entries.get(bfid.0);
-            Ok(dropped(history, daemon, *bfid, *now, entry))
+            Ok(dropped(looked.history, daemon, *bfid, *now, entry))
         }
-        DaemonCall::Attributes { path } => {
-            attributes(alloc, daemon, path, file_at(daemon, path))
-        }
-        DaemonCall::List => {
-            let rows = all_rows(alloc, daemon)?;
-            Ok(legal(daemon_healing_plan(Answer::Files { rows })))
-        }
+        _ => unreachable!(),
     }
 }
 
@@ -125,7 +213,14 @@ fn request_at(daemon: &Daemon, number: u64) -> Option<OpenRequest>
     daemon.requests.get(u128::from(number)).copied()
 }
 
-fn attributes(
+fn attributes(alloc: Global, daemon: &Daemon, path: &Path) -> Result<Verdict, NoMemory>
+    ensures { IfOk result (λ v. v ≡ verdict_on (attributes_plan daemon.now path.now (file_at_of daemon.now path.now)) no_needs) }
+{
+    attributes_of(alloc, daemon, path, file_at(daemon, path))
+}
+
+// What a user is told of this file, if it is there.
+fn attributes_of(
     alloc: Global,
     daemon: &Daemon,
     path: &Path,
@@ -138,4 +233,14 @@ fn attributes(
     };
     let row = row_of(&daemon.requests, path.copied(alloc)?, number, inode);
     Ok(legal(daemon_healing_plan(Answer::File { row })))
+}
+
+fn list(alloc: Global, daemon: &Daemon) -> Result<Verdict, VerdictError>
+    ensures verdict { IfOk result (λ v. v ≡ verdict_on (daemon_healing_plan_of (answer.Files (all_rows_of daemon.now))) no_needs) }
+    ensures range { IsErrOf result VerdictError.OutOfRange → IsDaemonInRange daemon.now → ⊥ }
+{
+    match all_rows(alloc, daemon) {
+        Ok(rows) => Ok(legal(daemon_healing_plan(Answer::Files { rows }))),
+        Err(error) => Err(error),
+    }
 }

@@ -1,15 +1,19 @@
 //! What the daemon tells of its files.
 
-ghost use Rattle.std.specs.Prelude.{◌≡◌, Some, IfOk, option_to_list};
+ghost use Rattle.std.specs.Prelude.{◌≡◌, ◌++◌, Some, IfOk, IsErrOf, OnOk, option_to_list};
+ghost use Rattle.std.specs.FinMap as map;
+ghost use Rattle.std.specs.List.{AllByRecursion};
 ghost use Rattle.std.specs.Option.{option_map};
+ghost use Rattle.dm_base.specs.Naming.{IsPath};
 ghost use Rattle.dm_daemon_plans.specs.Found.{numbered};
 ghost use Rattle.dm_durable.specs.Inodes.{bytes_online, length_of};
 ghost use Rattle.dm_model.specs.Files.{all_rows as all_rows_of, bfid_shown as bfid_shown_of, file_at as file_at_of, file_named, has_open_put as has_open_put_of, has_open_recall as has_open_recall_of, is_away as is_away_of, is_dual as is_dual_of, is_put as is_put_of_kind, is_recall as is_recall_of_kind, is_regular as is_regular_of, row_if as row_if_of, row_of as row_of_file, state_of as state_of_contents};
 
-use dm_base::{Bfid, Bytes, FileRow, FileState, Ino, Listed, NoMemory, Path};
+use dm_base::{Bfid, Bytes, FileRow, FileState, Ino, Listed, NoMemory, Path, TextError};
 use dm_durable::{Contents, Inode};
 use dm_model::{Daemon, OpenRequest, RequestKind};
 use dm_tables::{Numbers, Test};
+use dm_verdicts::VerdictError;
 use std::alloc::Global;
 
 /// The file of a path: the number of its inode, and the inode.
@@ -188,16 +192,28 @@ fn bfid_shown(state: FileState, contents: &Contents) -> Option<Bfid>
 }
 
 /// The rows of all files, by path.
-pub(crate) fn all_rows(alloc: Global, daemon: &Daemon) -> Result<Listed<FileRow>, NoMemory>
-    ensures { IfOk result (λ rows. rows ≡ all_rows_of daemon.now) }
+pub(crate) fn all_rows(alloc: Global, daemon: &Daemon) -> Result<Listed<FileRow>, VerdictError>
+    ensures rows { IfOk result (λ rows. rows ≡ all_rows_of daemon.now) }
+    ensures range { IsErrOf result VerdictError.OutOfRange → AllByRecursion (λ e. IsPath e.0) (map.entries daemon.now.tables.names) → ⊥ }
 {
     let mut rows = Vec::new(alloc);
     for (path, ino) in daemon.tables.names.entries() {
-        if let Some(row) = row_if(alloc, daemon, path, *ino)? {
-            rows.push(row)?;
+        match row_if(alloc, daemon, path, *ino) {
+            Ok(row) => put(&mut rows, row)?,
+            Err(error) => return Err(error),
         }
     }
     Ok(Listed::from_vec(rows))
+}
+
+// Puts the row, if there is one, behind those that are there.
+fn put(rows: &mut Vec<FileRow>, row: Option<FileRow>) -> Result<(), NoMemory>
+    ensures { OnOk result (rows.new.items ≡ rows.old.items ++ option_to_list row) }
+{
+    if let Some(row) = row {
+        rows.push(row)?;
+    }
+    Ok(())
 }
 
 // The row of the file of that name, if its inode is there.
@@ -206,24 +222,27 @@ fn row_if(
     daemon: &Daemon,
     path: &Bytes,
     ino: Ino,
-) -> Result<Option<FileRow>, NoMemory>
-    ensures { IfOk result (λ row. option_to_list row ≡ row_if_of daemon.now.requests path.now (file_named daemon.now.tables.inodes (Some ino))) }
+) -> Result<Option<FileRow>, VerdictError>
+    ensures row { IfOk result (λ row. option_to_list row ≡ row_if_of daemon.now.requests path.now (file_named daemon.now.tables.inodes (Some ino))) }
+    ensures range { IsErrOf result VerdictError.OutOfRange → IsPath path.now → ⊥ }
 {
     match daemon.tables.inodes.get(u128::from(ino.0)) {
         None => Ok(None),
-        Some(inode) => {
-            let path = path_of(alloc, path.as_slice())?;
-            Ok(Some(row_of(&daemon.requests, path, ino.0, inode)))
-        }
+        Some(inode) => match path_of(alloc, path.as_slice()) {
+            Ok(path) => Ok(Some(row_of(&daemon.requests, path, ino.0, inode))),
+            Err(error) => Err(error),
+        },
     }
 }
 
-// The path of this text. The names of files are paths, so a text that is none is in no table that a run makes.
-fn path_of(alloc: Global, text: &[u8]) -> Result<Path, NoMemory>
-    ensures { IfOk result (λ path. path ≡ text.now) }
+// The path of this text, which is out of range where it is none.
+fn path_of(alloc: Global, text: &[u8]) -> Result<Path, VerdictError>
+    ensures path { IfOk result (λ path. path ≡ text.now) }
+    ensures range { IsErrOf result VerdictError.OutOfRange → IsPath text.now → ⊥ }
 {
     match Path::of_bytes(alloc, text) {
         Ok(path) => Ok(path),
-        Err(_) => Err(NoMemory),
+        Err(TextError::Grammar) => Err(VerdictError::OutOfRange),
+        Err(TextError::NoMemory) => Err(VerdictError::NoMemory),
     }
 }

@@ -5,6 +5,7 @@ ghost use Rattle.std.specs.FinMap as finmap;
 ghost use Rattle.std.specs.Option.{option_copied, option_map};
 ghost use Rattle.dm_base.specs.declared.request.PutEnd.TheVariants as end;
 ghost use Rattle.dm_daemon_plans.specs.Found.{numbered, put_begun as put_begun_by};
+ghost use Rattle.dm_durable.specs.declared.daemon.DaemonStep.TheVariants as step;
 ghost use Rattle.dm_model.specs.DaemonCalls.{are_configured as are_configured_of, are_one_or_two as are_one_or_two_of, begin_put as begin_put_plan, begin_put_needs, committed_in as committed_in_of, copy_stored as copy_stored_plan, copy_stored_needs, end_put as end_put_plan, end_put_needs, has_reservation, is_filled as is_filled_of, is_first_filled as is_first_filled_of, is_reserved as is_reserved_of, may_ask as may_ask_of, put_refusals, daemon_refusal, release as release_plan};
 ghost use Rattle.dm_model.specs.Files.{groups_of as groups_in};
 ghost use Rattle.dm_model.specs.Guards.{first_true};
@@ -225,17 +226,24 @@ pub(crate) fn end_put(
         };
         return Ok(guarded(&guards, prepared));
     }
-    let step = DaemonStep::EndPut {
-        ino: open.ino,
-        bfid: open.bfid,
-        dual,
-    };
+    let step = ended_step(&open, dual);
     let answer = Answer::PutEnded { end: end_of(dual) };
     let prepared = Prepared {
         ends,
         ..step_plan(journal_payload(daemon, now, step), answer)
     };
     Ok(guarded(&guards, prepared))
+}
+
+// The end of the put, with every copy stored or not.
+fn ended_step(request: &OpenRequest, dual: bool) -> DaemonStep
+    ensures { result ≡ step.EndPut request.now.ino request.now.bfid dual }
+{
+    DaemonStep::EndPut {
+        ino: request.ino,
+        bfid: request.bfid,
+        dual,
+    }
 }
 
 // How a put ends: with every copy stored, or not.

@@ -2,6 +2,7 @@
 
 ghost use Rattle.std.specs.Prelude.{◌≡◌, IfOk};
 ghost use Rattle.dm_durable.specs.Daemon.{after_record, after_step as after_step_of, after_stop, empty_tables};
+ghost use Rattle.dm_durable_steps.specs.Steps.{IsLater};
 
 use crate::entries::{StoredBy, drop_all};
 use crate::inodes::{IsMaking, IsRecalled};
@@ -83,6 +84,33 @@ fn after_step(
                 .edit(u128::from(ino.0), &IsRecalled { alloc, bytes })?;
             Ok(tables)
         }
+        rest @ (DaemonStep::Dump { .. }
+        | DaemonStep::Undump { .. }
+        | DaemonStep::Restore { .. }
+        | DaemonStep::HardDelete { .. }
+        | DaemonStep::Dropped { .. }
+        | DaemonStep::Restart
+        | DaemonStep::Age { .. }) => after_later_step(alloc, tables, rest),
+    }
+}
+
+// The same of the steps on dumps, of a hard delete, of a start and of an age.
+fn after_later_step(
+    alloc: Global,
+    mut tables: DaemonTables,
+    step: DaemonStep,
+) -> Result<DaemonTables, NoMemory>
+    requires { IsLater step }
+    ensures { IfOk result (λ t. t ≡ after_step_of tables step) }
+{
+    match step {
+        DaemonStep::Write { .. }
+        | DaemonStep::Remove { .. }
+        | DaemonStep::BeginPut { .. }
+        | DaemonStep::Stored { .. }
+        | DaemonStep::EndPut { .. }
+        | DaemonStep::Release { .. }
+        | DaemonStep::Taken { .. } => unreachable!(),
         DaemonStep::Dump { name } => dumps::dump(alloc, tables, &name),
         DaemonStep::Undump { name } => {
             let _dump = tables.dumps.remove(name.bytes());

@@ -1,8 +1,4 @@
 pub mod Lists
-pub mod Layouts
 pub mod Written
-pub mod Summing
-pub mod ByWeight
-pub mod Nearest
-pub mod Listed
 pub mod Merging
+pub mod Spelled

@@ -1,6 +1,5 @@
--- What is left of a list from an index on, and look-ups in lists.
-use Rattle.std.proofs.Common.{◌≡◌, ℕ, suc, ◌+◌, ◌-◌, ◌<◌, List, [], ◌∷◌, length, get_or, drop, sym, ap, ◌∙◌, arith, cond, true, false, Option, Some, None, nat_eq}
-use Rattle.std.proofs.Math.Seq.{drop-cons}
+-- Look-ups in lists, and the least slot that is free.
+use Rattle.std.proofs.Common.{◌≡◌, ℕ, suc, ◌+◌, ◌-◌, List, [], ◌∷◌, sym, ap, ◌∙◌, cond, true, false, Option, Some, None, nat_eq}
 use Rattle.std.proofs.lemmas.Bool.{eq-eqb, ne_eqb}
 use Rattle.dm_base.specs.declared.volume.Chunk.{Chunk}
 use Rattle.dm_base.specs.declared.volume.Piece.{Piece}
@@ -10,21 +9,6 @@ use Rattle.dm_durable.specs.Tables.{ByName}
 use Rattle.dm_durable.specs.Volumes.{free_slot}
 use Rattle.dm_model.specs.GroupCalls.{piece_at}
 use Rattle.dm_tables.specs.Rows.{any}
-
--- the element at an index and those behind it
-pub drop_next : {A : Type 0} (l : List A) (j : ℕ) (d : A) → j < length l → drop j l ≡ get_or l j d ∷ drop (j + 1) l
-drop_next l j d h = drop-cons l j d h ∙ (let e : suc j ≡ j + 1 = omega arith in ap (λ n. get_or l j d ∷ drop n l) e)
-
--- the next element of a list by another name
-pub drop_next_of : {A : Type 0} (xs ys : List A) (i : ℕ) (d : A) → xs ≡ ys → i < length xs → drop i ys ≡ get_or xs i d ∷ drop (i + 1) ys
-drop_next_of xs ys i d same h = ap (drop i) (sym same) ∙ drop_next xs i d h ∙ ap (λ zs. get_or xs i d ∷ drop (i + 1) zs) same
-
--- some chunk and some piece
-abbrev pub no_chunk : Chunk
-no_chunk = record { offset = 0; len = 0; vsn = record { 0 = [] }; zone = 0; place = 0; sum = None }
-
-abbrev pub no_piece : Piece
-no_piece = record { vsn = record { 0 = [] }; version = 0; zone = 0; offset = 0; len = 0 }
 
 -- ---- the chunk at an offset
 pub chunk_on : (offset : ℕ) (cs rest : List Chunk) (c : Chunk) (whole : Option Chunk) → cs ≡ c ∷ rest → (c.offset ≡ offset → ⊥) → chunk_at offset cs ≡ whole → chunk_at offset rest ≡ whole

@@ -1,8 +1,11 @@
 //! All calls of a group.
 
-ghost use Rattle.std.specs.Prelude.{◌≡◌, IfOk};
+ghost use Rattle.std.specs.Prelude.{◌≡◌, IfOk, IsErrOf};
 ghost use Rattle.std.specs.FinMap as map;
 ghost use Rattle.std.specs.Option.{option_copied};
+ghost use Rattle.dm_group_plans.specs.Parts.{part_of};
+ghost use Rattle.dm_group_plans.specs.Parts.Part.{Copies, Merges, Mounts, Volumes};
+ghost use Rattle.dm_group_usage.specs.Range.{IsGroupInRange, IsSideInRange};
 ghost use Rattle.dm_model.specs.GroupCalls.{group_needs, group_plan, no_group as no_group_plan};
 ghost use Rattle.dm_model.specs.Plan.{no_needs};
 ghost use Rattle.dm_model.specs.Step.{side_needs, side_plan};
@@ -17,18 +20,16 @@ use crate::prepared::group_quiet_plan;
 use crate::reuses::{free, reuse, reuse_next};
 use crate::rows::{all_rows, volumes};
 use dm_base::{GroupId, NoMemory};
-use dm_durable::VolumeRow;
 use dm_model::{
     Answer, Group, GroupCall, Guard, History, Mounted, Moving, Reserved, Reusing, Side, Worker,
 };
-use dm_verdicts::{Verdict, judge};
+use dm_verdicts::{Verdict, VerdictError, judge};
 use std::alloc::Global;
 
 /// The verdict on a call of the group: the lowest guard of it that is false, and what it comes to. The worker is the one that
-/// calls, if anything is known of it; the side is the group's, if it is configured. `NoMemory` where memory is refused, and
-/// where the call would tell of what can't be held, which comes in no run: a place past 64 bits, a volume under a text that is
-/// no serial number, or a zone of a move without bytes or past the end of its bitfile (docs/DEFINITIONS.md, "The machine,
-/// whole").
+/// calls, if anything is known of it; the side is the group's, if it is configured (docs/DEFINITIONS.md, "The machine, whole").
+/// `OutOfRange` comes only where the group isn't in range, which no state of a run is; then no `Verdict` could say what the definition
+/// does. `NoMemory` only where memory is refused.
 pub fn group_verdict(
     alloc: Global,
     worker: Option<&Worker>,
@@ -36,8 +37,9 @@ pub fn group_verdict(
     id: GroupId,
     side: Option<&Side>,
     call: &GroupCall,
-) -> Result<Verdict, NoMemory>
-    ensures { IfOk result (λ v. v ≡ verdict_on (side_plan id call.now (option_copied side.entry)) (side_needs (option_copied worker.entry) history.now id call.now (option_copied side.entry))) }
+) -> Result<Verdict, VerdictError>
+    ensures verdict { IfOk result (λ v. v ≡ verdict_on (side_plan id call.now (option_copied side.entry)) (side_needs (option_copied worker.entry) history.now id call.now (option_copied side.entry))) }
+    ensures range { IsErrOf result VerdictError.OutOfRange → IsSideInRange (option_copied side.entry) → ⊥ }
 {
     match side {
         None => Ok(no_group(id)),
@@ -65,33 +67,94 @@ fn side_verdict(
     id: GroupId,
     side: &Side,
     call: &GroupCall,
-) -> Result<Verdict, NoMemory>
-    ensures { IfOk result (λ v. v ≡ verdict_on (group_plan id side.now.group call.now) (group_needs (option_copied worker.entry) history.now id side.now call.now)) }
+) -> Result<Verdict, VerdictError>
+    ensures verdict { IfOk result (λ v. v ≡ verdict_on (group_plan id side.now.group call.now) (group_needs (option_copied worker.entry) history.now id side.now call.now)) }
+    ensures range { IsErrOf result VerdictError.OutOfRange → IsGroupInRange side.now.group → ⊥ }
 {
+    let looked = Looked {
+        worker,
+        history,
+        id,
+        side,
+    };
+    match call {
+        GroupCall::Missing
+        | GroupCall::AddVolume { .. }
+        | GroupCall::Free { .. }
+        | GroupCall::ReuseNext { .. }
+        | GroupCall::Reuse { .. } => Ok(volume_verdict(alloc, &looked, call)?),
+        GroupCall::MountNew { .. }
+        | GroupCall::MountPiece { .. }
+        | GroupCall::MountChunk { .. }
+        | GroupCall::Unmount { .. } => Ok(mount_verdict(&looked, call)),
+        GroupCall::Reserve { .. }
+        | GroupCall::Commit { .. }
+        | GroupCall::Abort { .. }
+        | GroupCall::Delete { .. } => copy_verdict(alloc, &looked, call),
+        GroupCall::MergeList
+        | GroupCall::MergeNext { .. }
+        | GroupCall::MoveDone { .. }
+        | GroupCall::DropMove { .. } => merge_verdict(alloc, &looked, call),
+        GroupCall::Rows => all_rows(alloc, &side.group, id),
+        GroupCall::Volumes => Ok(volumes(alloc, &side.group, id)?),
+    }
+}
+
+// What a call is looked at with.
+#[derive(Drop)]
+struct Looked<'a> {
+    worker: Option<&'a Worker>,
+    history: &'a History,
+    id: GroupId,
+    side: &'a Side,
+}
+
+// A call that adds, frees or uses again a volume.
+fn volume_verdict(alloc: Global, looked: &Looked, call: &GroupCall) -> Result<Verdict, NoMemory>
+    requires { part_of call.now ≡ Volumes }
+    ensures { IfOk result (λ v. v ≡ verdict_on (group_plan looked.now.id looked.now.side.now.group call.now) (group_needs (option_copied looked.now.worker) looked.now.history.now looked.now.id looked.now.side.now call.now)) }
+{
+    let id = looked.id;
+    let side = looked.side;
     let library = &side.group;
     match call {
         GroupCall::Missing => Ok(missing(library, id)),
-        GroupCall::MountNew { vsn, mount } => Ok(mount_new(library, id, *vsn, *mount)),
         GroupCall::AddVolume { mount, now } => {
             let mounted = mounted_at(library, *mount);
             let state = side.mounts.get(u128::from(*mount));
             Ok(add_volume(library, id, *mount, *now, mounted, state))
         }
-        GroupCall::Reserve {
-            bfid,
-            len,
-            reservation,
-        } => {
-            let copy = side.copies.get(bfid.0);
-            reserve(alloc, library, id, *bfid, *len, *reservation, copy)
+        GroupCall::Free { vsn, now } => {
+            let row = library.tables.volumes.get(&vsn.0).copied();
+            Ok(free(library, id, *vsn, *now, row))
         }
+        GroupCall::ReuseNext { mount, now } => reuse_next(alloc, library, id, *mount, *now),
+        GroupCall::Reuse { mount, now } => {
+            let reusing = reusing_at(library, *mount);
+            let state = side.mounts.get(u128::from(*mount));
+            Ok(reuse(library, id, *mount, *now, reusing, state))
+        }
+        _ => unreachable!(),
+    }
+}
+
+// A call that mounts or unmounts a volume.
+fn mount_verdict(looked: &Looked, call: &GroupCall) -> Verdict
+    requires { part_of call.now ≡ Mounts }
+    ensures { result ≡ verdict_on (group_plan looked.now.id looked.now.side.now.group call.now) (group_needs (option_copied looked.now.worker) looked.now.history.now looked.now.id looked.now.side.now call.now) }
+{
+    let id = looked.id;
+    let side = looked.side;
+    let library = &side.group;
+    match call {
+        GroupCall::MountNew { vsn, mount } => mount_new(library, id, *vsn, *mount),
         GroupCall::MountPiece {
             reservation,
             piece,
             mount,
         } => {
             let reserved = reserved_at(library, *reservation);
-            Ok(mount_piece(library, id, *piece, *mount, reserved))
+            mount_piece(library, id, *piece, *mount, reserved)
         }
         GroupCall::MountChunk {
             bfid,
@@ -99,12 +162,35 @@ fn side_verdict(
             mount,
         } => {
             let row = library.tables.bitfiles.get(bfid.0);
-            Ok(mount_chunk(worker, library, id, *bfid, *offset, *mount, row))
+            mount_chunk(looked.worker, library, id, *bfid, *offset, *mount, row)
         }
         GroupCall::Unmount { mount } => {
             let mounted = mounted_at(library, *mount);
             let state = side.mounts.get(u128::from(*mount));
-            Ok(unmount(id, *mount, mounted, state))
+            unmount(id, *mount, mounted, state)
+        }
+        _ => unreachable!(),
+    }
+}
+
+// A call on the copy of a bitfile.
+fn copy_verdict(alloc: Global, looked: &Looked, call: &GroupCall) -> Result<Verdict, VerdictError>
+    requires { part_of call.now ≡ Copies }
+    ensures verdict { IfOk result (λ v. v ≡ verdict_on (group_plan looked.now.id looked.now.side.now.group call.now) (group_needs (option_copied looked.now.worker) looked.now.history.now looked.now.id looked.now.side.now call.now)) }
+    ensures range { IsErrOf result VerdictError.OutOfRange → IsGroupInRange looked.now.side.now.group → ⊥ }
+{
+    let history = looked.history;
+    let id = looked.id;
+    let side = looked.side;
+    let library = &side.group;
+    match call {
+        GroupCall::Reserve {
+            bfid,
+            len,
+            reservation,
+        } => {
+            let copy = side.copies.get(bfid.0);
+            Ok(reserve(alloc, library, id, *bfid, *len, *reservation, copy)?)
         }
         GroupCall::Commit {
             reservation,
@@ -119,7 +205,21 @@ fn side_verdict(
             Ok(abort(side, id, *reservation, reserved))
         }
         GroupCall::Delete { bfid, now } => Ok(delete(history, library, id, *bfid, *now)),
-        GroupCall::MergeList => merge_list(alloc, library, id),
+        _ => unreachable!(),
+    }
+}
+
+// A call of a merge.
+fn merge_verdict(alloc: Global, looked: &Looked, call: &GroupCall) -> Result<Verdict, VerdictError>
+    requires { part_of call.now ≡ Merges }
+    ensures verdict { IfOk result (λ v. v ≡ verdict_on (group_plan looked.now.id looked.now.side.now.group call.now) (group_needs (option_copied looked.now.worker) looked.now.history.now looked.now.id looked.now.side.now call.now)) }
+    ensures range { IsErrOf result VerdictError.OutOfRange → IsGroupInRange looked.now.side.now.group → ⊥ }
+{
+    let id = looked.id;
+    let side = looked.side;
+    let library = &side.group;
+    match call {
+        GroupCall::MergeList => Ok(merge_list(alloc, library, id)?),
         GroupCall::MergeNext {
             list,
             source,
@@ -136,21 +236,10 @@ fn side_verdict(
         }
         GroupCall::MoveDone { job, sum, now } => {
             let moving = moving_at(library, *job);
-            move_done(alloc, side, id, *job, *sum, *now, moving)
+            Ok(move_done(alloc, side, id, *job, *sum, *now, moving)?)
         }
         GroupCall::DropMove { job } => Ok(drop_move(id, *job, moving_at(library, *job))),
-        GroupCall::Free { vsn, now } => {
-            let row = library.tables.volumes.get(&vsn.0).copied();
-            Ok(free(library, id, *vsn, *now, row))
-        }
-        GroupCall::ReuseNext { mount, now } => reuse_next(alloc, library, id, *mount, *now),
-        GroupCall::Reuse { mount, now } => {
-            let reusing = reusing_at(library, *mount);
-            let state = side.mounts.get(u128::from(*mount));
-            Ok(reuse(library, id, *mount, *now, reusing, state))
-        }
-        GroupCall::Rows => all_rows(alloc, library, id),
-        GroupCall::Volumes => volumes(alloc, library, id),
+        _ => unreachable!(),
     }
 }
 

@@ -1,17 +1,18 @@
 //! What a commit needs and journals: the zones that were written, and the sums of their chunks.
 
-ghost use Rattle.std.specs.Prelude.{◌≡◌, ◌++◌, Some, cond, take, drop, slice_get, IfOk, OnOk};
+ghost use Rattle.std.specs.Prelude.{◌≡◌, ◌++◌, Some, cond, take, drop, slice_get, true, IfOk, OnOk};
 ghost use Rattle.std.specs.Prelude as prelude;
 ghost use Rattle.std.specs.FinMap as map;
 ghost use Rattle.std.specs.List.{flat_map};
 ghost use Rattle.std.specs.Option.{option_copied};
 ghost use Rattle.dm_model.specs.GroupCalls.{all_written as all_written_of, are_sums_of as are_sums_of_pieces, are_written as are_written_of, is_part as is_part_of, is_zone_of as is_zone_of_piece, part_of as part_of_bytes, piece_sums as piece_sums_of, same_sums as same_sums_of, summed_chunks as summed_chunks_of, with_sums};
 ghost use Rattle.dm_group_plans.specs.Found.{with_sum as with_sum_of};
+ghost use Rattle.dm_group_usage.specs.Range.{are_pieces_in_range, is_piece_in_range};
 ghost use Rattle.dm_rules.specs.Version.{has_sum as has_sum_of};
 ghost use Rattle.sha2.specs.Sha256.{sha256};
 
-use crate::layout::{chunk_count, chunks_of};
 use dm_base::{Bytes, Chunk, Listed, NoMemory, Piece};
+use dm_group_usage::chunks_of;
 use dm_model::{CopyReservation, Reserved, WrittenZone};
 use dm_rules::has_sum;
 use dm_tables::Numbers;
@@ -121,6 +122,7 @@ pub(crate) fn are_sums_of(
     reserved: &Reserved,
     sums: &[[u8; 32]],
 ) -> Result<bool, NoMemory>
+    requires { are_pieces_in_range reserved.now.chunk reserved.now.pieces ≡ true }
     ensures { IfOk result (λ all. all ≡ are_sums_of_pieces (option_copied bytes.entry) reserved.now sums.now) }
 {
     let Some(bytes) = bytes else {
@@ -148,6 +150,7 @@ fn all_sums(
     bytes: &[u8],
     pieces: &[Piece],
 ) -> Result<Vec<[u8; 32]>, NoMemory>
+    requires { are_pieces_in_range chunk pieces.now ≡ true }
     ensures { IfOk result (λ sums. sums.items ≡ flat_map (piece_sums_of chunk bytes.now) pieces.now) }
 {
     let mut sums = Vec::new(alloc);
@@ -165,6 +168,7 @@ fn put_sums(
     bytes: &[u8],
     piece: Piece,
 ) -> Result<(), NoMemory>
+    requires { is_piece_in_range chunk piece ≡ true }
     ensures { OnOk result (sums.new.items ≡ sums.old.items ++ piece_sums_of chunk bytes.now piece) }
 {
     if !has_sum(piece.version) {
@@ -225,6 +229,7 @@ pub(crate) fn summed_chunks(
     pieces: &[Piece],
     sums: &[[u8; 32]],
 ) -> Result<Listed<Chunk>, NoMemory>
+    requires { are_pieces_in_range chunk pieces.now ≡ true }
     ensures { IfOk result (λ chunks. chunks ≡ summed_chunks_of chunk pieces.now sums.now) }
 {
     let mut chunks = Vec::new(alloc);

@@ -1,28 +1,28 @@
 //! What the calls on copies of bitfiles come to: reserving room, committing, giving up, and deleting.
 
-ghost use Rattle.std.specs.Prelude.{◌≡◌, IfOk, cond, None, Some};
+ghost use Rattle.std.specs.Prelude.{◌≡◌, IfOk, IsErrOf, cond, true, false, None, Some};
 ghost use Rattle.std.specs.Option.{option_copied};
 ghost use Rattle.dm_durable.specs.declared.group.GroupStep.TheVariants as step;
 ghost use Rattle.dm_model.specs.GroupCalls.{abort as abort_plan, abort_needs, commit as commit_plan, commit_needs, delete as delete_plan, delete_needs, group_journal_payload, is_unmounted as is_unmounted_of, may_reserve as may_reserve_of, reservation_in as reservation_in_copy, reserve as reserve_plan, reserve_needs};
-ghost use Rattle.dm_group_plans.specs.Found.{commit_guards};
+ghost use Rattle.dm_group_plans.specs.Found.{commit_guards, reservation_of};
+ghost use Rattle.dm_group_usage.specs.Range.{are_pieces_in_range, is_reserved_in_range};
 ghost use Rattle.dm_model.specs.Guards.{lowest_false};
 ghost use Rattle.dm_model.specs.Plan.{prepared_plan};
 ghost use Rattle.dm_verdicts.specs.Verdict.{verdict_on};
 
 use crate::commits::{all_written, are_sums_of, summed_chunks};
-use crate::layout::{pieces_of, rooms};
-use crate::listing::spaces;
 use crate::prepared::{
-    as_word, group_healing_plan, group_quiet_plan, is_absent, is_new, journal_payload, no_token,
+    group_healing_plan, group_quiet_plan, is_absent, is_new, journal_payload, no_token,
     refused_plan, step_plan,
 };
-use dm_base::{Bfid, Bytes, GroupError, GroupId, Listed, NoMemory, Secs};
+use dm_base::{Bfid, Bytes, GroupError, GroupId, Listed, NoMemory, Piece, Secs};
 use dm_durable::GroupStep;
+use dm_group_usage::{are_in_range, as_word, pieces_of, rooms, spaces};
 use dm_model::{
     Answer, CopyReservation, CopyState, Ending, Group, Guard, History, Mark, Opening, Payload,
     Prepared, Reserved, Side,
 };
-use dm_verdicts::{Verdict, guarded, judge};
+use dm_verdicts::{Verdict, VerdictError, guarded, judge};
 use std::alloc::Global;
 
 pub(crate) fn reserve(
@@ -48,8 +48,25 @@ pub(crate) fn reserve(
         };
         return Ok(guarded(&[absent, wanted], refused_plan(id, error)));
     }
-    let chunk = library.conf.chunk;
     let pieces = pieces_of(alloc, spaces.as_slice(), len)?;
+    let prepared = reservation(alloc, library, id, bfid, len, number, pieces)?;
+    let new = is_new(library.next_reservation, u128::from(number));
+    Ok(judge(&[absent, wanted, new], &[absent, wanted], prepared))
+}
+
+// The reservation of these pieces, which is made.
+fn reservation(
+    alloc: Global,
+    library: &Group,
+    id: GroupId,
+    bfid: Bfid,
+    len: u64,
+    number: u64,
+    pieces: Listed<Piece>,
+) -> Result<Prepared, NoMemory>
+    ensures { IfOk result (λ p. p ≡ reservation_of id library.now bfid len number pieces) }
+{
+    let chunk = library.conf.chunk;
     let reserved = Reserved {
         bfid,
         len,
@@ -61,16 +78,14 @@ pub(crate) fn reserve(
         chunk,
         pieces,
     };
-    let prepared = Prepared {
+    Ok(Prepared {
         opens: Opening::Reservation {
             group: id,
             number,
             reserved,
         },
         ..group_healing_plan(id, answer)
-    };
-    let new = is_new(library.next_reservation, u128::from(number));
-    Ok(judge(&[absent, wanted, new], &[absent, wanted], prepared))
+    })
 }
 
 // Whether the copy is being stored with this length, and has no reservation.
@@ -92,17 +107,21 @@ pub(crate) fn commit(
     sums: &Listed<[u8; 32]>,
     now: Secs,
     reserved: Option<&Reserved>,
-) -> Result<Verdict, NoMemory>
-    ensures { IfOk result (λ v. v ≡ verdict_on (commit_plan id side.now.group number sums.now now.0 (option_copied reserved.entry)) (commit_needs history.now.contents side.now.copies number sums.now (option_copied reserved.entry))) }
+) -> Result<Verdict, VerdictError>
+    ensures verdict { IfOk result (λ v. v ≡ verdict_on (commit_plan id side.now.group number sums.now now.0 (option_copied reserved.entry)) (commit_needs history.now.contents side.now.copies number sums.now (option_copied reserved.entry))) }
+    ensures range { IsErrOf result VerdictError.OutOfRange → is_reserved_in_range (option_copied reserved.entry) ≡ false }
 {
     let Some(reserved) = reserved else {
         return Ok(no_token(id));
     };
+    if !are_in_range(reserved.chunk, reserved.pieces.as_slice()) {
+        return Err(VerdictError::OutOfRange);
+    }
     let sums = sums.as_slice();
     let bytes = history.contents.get(reserved.bfid.0);
     let copy = side.copies.get(reserved.bfid.0);
     let prepared = committed(alloc, &side.group, id, number, sums, now, reserved)?;
-    commit_of(alloc, number, sums, reserved, bytes, copy, prepared)
+    Ok(commit_of(alloc, number, sums, reserved, bytes, copy, prepared)?)
 }
 
 // The commit of this reservation, which comes to this, given the bytes and the copy of its bitfile.
@@ -115,6 +134,7 @@ fn commit_of(
     copy: Option<&CopyState>,
     prepared: Prepared,
 ) -> Result<Verdict, NoMemory>
+    requires { are_pieces_in_range reserved.now.chunk reserved.now.pieces ≡ true }
     ensures { IfOk result (λ v. v ≡ record { illegal = lowest_false (commit_guards number sums.now reserved.now (option_copied bytes.entry) (option_copied copy.entry)); illegal_fault = lowest_false (commit_guards number sums.now reserved.now (option_copied bytes.entry) (option_copied copy.entry)); prepared = prepared }) }
 {
     let reservation = reservation_in(copy);
@@ -139,6 +159,7 @@ fn committed(
     now: Secs,
     reserved: &Reserved,
 ) -> Result<Prepared, NoMemory>
+    requires { are_pieces_in_range reserved.now.chunk reserved.now.pieces ≡ true }
     ensures { IfOk result (λ p. p ≡ prepared_plan (commit_plan id library.now number sums.now now.0 (Some reserved.now))) }
 {
     let bfid = reserved.bfid;

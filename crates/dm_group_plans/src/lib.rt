@@ -5,15 +5,13 @@
 //! order; and what an accepted call does is built only where no refusal holds. Where a definition goes by cases on what was
 //! looked up, the code has a function that takes it.
 //!
-//! Some states that no run reaches have what can't be held: a place past 64 bits, a volume under a text that is no serial
-//! number. A call that would have to tell of it answers that memory is wanting.
+//! The definitions are over all numbers and texts. A state that isn't in range (`IsGroupInRange` of `dm_group_usage`) has what can't be told or held: a
+//! volume under a text that is no serial number, a place past 64 bits. A call that would have to answers `OutOfRange`. No run reaches such a state.
 #![tactic(auto)]
 
 mod calls;
 mod commits;
 mod copies;
-mod layout;
-mod listing;
 mod merges;
 mod mounts;
 mod moves;
@@ -21,8 +19,6 @@ mod new_volumes;
 mod prepared;
 mod reuses;
 mod rows;
-mod sparse;
-mod usage;
-mod weights;
+mod zones;
 
 pub use calls::group_verdict;

@@ -7,15 +7,16 @@ ghost use Rattle.dm_durable.specs.Group.{chunk_at as chunk_at_offset};
 ghost use Rattle.dm_model.specs.GroupCalls.{is_of_move as is_of_move_of, may_unmount as may_unmount_of, mount_chunk as mount_chunk_plan, mount_chunk_needs, mount_chunk_of as mount_chunk_of_plan, mount_new as mount_new_plan, mount_piece as mount_piece_plan, mount_piece_of as mount_piece_of_plan, of_tokens, piece_at as piece_at_place, recalls_from as recalls_from_worker, unmount as unmount_plan, unmount_needs};
 ghost use Rattle.dm_model.specs.Plan.{no_needs};
 ghost use Rattle.dm_model.specs.Volumes.{epoch_of as epoch_of_volume};
+ghost use Rattle.dm_model.specs.declared.answer.Answer.TheVariants as answer;
 ghost use Rattle.dm_model.specs.declared.plan.Opening.TheVariants as opening;
 ghost use Rattle.dm_verdicts.specs.Verdict.{verdict_on};
 
 use crate::prepared::{
     group_healing_plan, group_quiet_plan, is_new, no_token, no_token_with, refused_plan,
 };
-use crate::usage::{epoch_of, is_configured, mount_refusal};
 use dm_base::{Bfid, Chunk, GroupId, Piece, Vsn};
 use dm_durable::BitfileRow;
+use dm_group_usage::{epoch_of, is_configured, mount_refusal};
 use dm_model::{
     Answer, Ending, Group, Guard, MountState, Mounted, Opening, Origin, Prepared, Recall, Reserved,
     Worker,
@@ -34,17 +35,22 @@ pub(crate) fn mount_new(library: &Group, id: GroupId, vsn: Vsn, number: u64) -> 
         listed: library.tables.volumes.contains(&vsn.0),
         format: library.conf.format,
     };
-    let answer = Answer::Mounted {
-        mount: number,
-        vsn,
-        epoch: epoch_of(library, vsn),
-    };
     let prepared = Prepared {
         opens: mount_opening(library, id, number, vsn, origin),
-        ..group_healing_plan(id, answer)
+        ..group_healing_plan(id, mounted_answer(library, number, vsn))
     };
     let new = is_new(library.next_mount, u128::from(number));
     judge(&[configured, new], &[configured], prepared)
+}
+
+fn mounted_answer(library: &Group, number: u64, vsn: Vsn) -> Answer
+    ensures { result ≡ answer.Mounted number vsn (epoch_of_volume library.now vsn.0) }
+{
+    Answer::Mounted {
+        mount: number,
+        vsn,
+        epoch: epoch_of(library, vsn),
+    }
 }
 
 // The mount that is made, under the epoch that the volume has.
@@ -107,14 +113,9 @@ fn mount_piece_of(
         piece,
         chunk: reserved.chunk,
     };
-    let answer = Answer::Mounted {
-        mount: number,
-        vsn: piece.vsn,
-        epoch: epoch_of(library, piece.vsn),
-    };
     let prepared = Prepared {
         opens: mount_opening(library, id, number, piece.vsn, origin),
-        ..group_quiet_plan(id, answer)
+        ..group_quiet_plan(id, mounted_answer(library, number, piece.vsn))
     };
     judge(&[new], &[device], prepared)
 }

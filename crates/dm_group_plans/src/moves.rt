@@ -1,12 +1,7 @@
-//! What the calls of the move of a chunk come to, and which chunk a merge moves next.
+//! What the calls of the move of a chunk come to.
 
-ghost use Rattle.std.specs.Prelude.{◌≡◌, Some, None, IfOk, cond, filter};
-ghost use Rattle.std.specs.Prelude as prelude;
-ghost use Rattle.std.specs.FinMap as map;
-ghost use Rattle.std.specs.Option.{option_copied, option_map};
-ghost use Rattle.dm_durable.specs.Group.{is_on};
-ghost use Rattle.dm_durable.specs.Volumes.{first_on as first_on_volume, live_chunk};
-ghost use Rattle.dm_group_plans.specs.Found.{furthest, in_front as in_front_of, live_chunk_of};
+ghost use Rattle.std.specs.Prelude.{◌≡◌, Some, IfOk};
+ghost use Rattle.std.specs.Option.{option_copied};
 ghost use Rattle.dm_model.specs.GroupCalls.{chunk_in as chunk_in_row, drop_move as drop_move_plan, is_chunk as is_chunk_of, is_moved as is_moved_of, move_done as move_done_plan, move_done_needs, same_chunk as same_chunk_of, same_sum as same_sum_of, was_moved as was_moved_of};
 ghost use Rattle.dm_model.specs.Plan.{no_needs};
 ghost use Rattle.dm_model.specs.declared.plan.Ending.TheVariants as ending;
@@ -14,12 +9,12 @@ ghost use Rattle.dm_verdicts.specs.Verdict.{verdict_on};
 
 use crate::mounts::chunk_at;
 use crate::prepared::{group_quiet_plan, journal_payload, no_token, refused_plan, step_plan};
-use dm_base::{Bfid, Bytes, Chunk, GroupError, GroupId, NoMemory, Secs, Vsn};
+use crate::zones::moved_zone;
+use dm_base::{Bytes, Chunk, GroupError, GroupId, NoMemory, Secs};
 use dm_durable::{BitfileRow, GroupStep};
 use dm_model::{Answer, Ending, Guard, MountState, Moving, Prepared, Side};
-use dm_tables::Numbers;
 use dm_verdicts::{Verdict, guarded, judge};
-use dm_zone::{chunk_sum, encode_zone};
+use dm_zone::chunk_sum;
 use std::alloc::Global;
 
 pub(crate) fn move_done(
@@ -153,8 +148,7 @@ fn was_moved(
     }
 }
 
-// Whether this zone is the one that the bytes are to become under an epoch, and this the sum that its chunk then has. No bytes,
-// and bytes that end behind their bitfile, can't be written as a zone.
+// Whether this zone is the one that the bytes are to become under an epoch, and this the sum that its chunk then has.
 fn is_moved(
     alloc: Global,
     epoch: u64,
@@ -165,86 +159,7 @@ fn is_moved(
 ) -> Result<bool, NoMemory>
     ensures { IfOk result (λ moved. moved ≡ is_moved_of epoch moving.now sum bytes.now (Some zone.now)) }
 {
-    let len = bytes.len() as u64;
-    if len == 0 || moving.total < len || moving.total - len < moving.from.offset {
-        return Err(NoMemory);
-    }
-    let right = encode_zone(
-        alloc,
-        epoch,
-        moving.version,
-        moving.bfid,
-        moving.total,
-        moving.from.offset,
-        bytes,
-        len,
-    )?;
+    let right = moved_zone(alloc, epoch, moving, bytes)?;
     let same = zone.as_slice() == right.as_slice();
     Ok(same && same_sum(sum, chunk_sum(moving.version, bytes)))
-}
-
-/// A chunk, with whose it is and the length of that bitfile.
-#[derive(Clone, Copy, Debug, PartialEq, Eq)]
-pub(crate) struct Live {
-    pub(crate) bfid: Bfid,
-    pub(crate) total: u64,
-    pub(crate) chunk: Chunk,
-}
-
-/// The chunk that a merge of the volume moves next: the one that lies furthest in front.
-pub(crate) fn first_on(bitfiles: &Numbers<BitfileRow>, vsn: Vsn) -> Option<Live>
-    ensures { option_map live_chunk_of result ≡ first_on_volume bitfiles.now vsn.0 }
-{
-    let mut first = None;
-    for (number, row) in bitfiles.entries() {
-        first = first_in(first, *number, row, vsn);
-    }
-    first
-}
-
-// The one that lies furthest in front, of what was found and of the bitfile's chunks on the volume.
-fn first_in(found: Option<Live>, number: u128, row: &BitfileRow, vsn: Vsn) -> Option<Live>
-    ensures { option_map live_chunk_of result ≡ furthest (option_map live_chunk_of found) (prelude.map (live_chunk number row.now) (filter (is_on vsn.0) row.now.chunks)) }
-{
-    let mut first = found;
-    for chunk in row.chunks.as_slice() {
-        first = with_chunk(first, number, row, *chunk, vsn);
-    }
-    first
-}
-
-// The same of what was found and of one chunk more, if it is on the volume.
-fn with_chunk(
-    found: Option<Live>,
-    number: u128,
-    row: &BitfileRow,
-    chunk: Chunk,
-    vsn: Vsn,
-) -> Option<Live>
-    ensures { option_map live_chunk_of result ≡ cond (is_on vsn.0 chunk) (Some (in_front_of (option_map live_chunk_of found) (live_chunk number row.now chunk))) (option_map live_chunk_of found) }
-{
-    if chunk.vsn.0 != vsn.0 {
-        return found;
-    }
-    let live = Live {
-        bfid: Bfid(number),
-        total: row.len,
-        chunk,
-    };
-    Some(in_front(found, live))
-}
-
-fn in_front(found: Option<Live>, live: Live) -> Live
-    ensures { live_chunk_of result ≡ in_front_of (option_map live_chunk_of found) (live_chunk_of live) }
-{
-    match found {
-        None => live,
-        Some(other) => {
-            if other.chunk.place <= live.chunk.place {
-                other
-            } else {
-                live
-            }
-        }
-    }
 }

@@ -4,7 +4,6 @@ ghost use Rattle.std.specs.Prelude.{◌≡◌, ◌∷◌, [], is_none, IfOk};
 ghost use Rattle.std.specs.FinMap as map;
 ghost use Rattle.dm_model.specs.GroupCalls.{group_healing_plan as group_healing_plan_of, group_journal_payload, group_quiet_plan as group_quiet_plan_of, group_refusal, group_time, is_new as is_new_of, no_token as no_token_plan, of_tokens};
 ghost use Rattle.dm_model.specs.Plan.{no_needs, prepared_plan};
-ghost use Rattle.dm_rules.specs.Numbers.{as_word as word_of};
 ghost use Rattle.dm_verdicts.specs.Verdict.{verdict_on};
 
 use dm_base::{GroupError, GroupId, NoMemory, Secs};
@@ -110,11 +109,4 @@ pub(crate) fn is_absent<V>(rows: &Numbers<V>, number: u128) -> bool
         None => true,
         Some(_) => false,
     }
-}
-
-/// The number as 64 bits hold it.
-pub(crate) fn as_word(number: u128) -> u64
-    ensures { result ≡ word_of number }
-{
-    number.min(u128::from(u64::MAX)) as u64
 }

@@ -1,19 +1,20 @@
 //! What a group tells of its tables.
 
-ghost use Rattle.std.specs.Prelude.{◌≡◌, IfOk};
+ghost use Rattle.std.specs.Prelude.{◌≡◌, true, false, IfOk, IsErrOf};
 ghost use Rattle.std.specs.Prelude as prelude;
 ghost use Rattle.std.specs.FinMap as map;
+ghost use Rattle.dm_group_usage.specs.Range.{are_serials_in};
 ghost use Rattle.dm_model.specs.GroupCalls.{all_rows as all_rows_plan, bitfile_row as bitfile_row_of, rows_of as rows_of_group, volume_fact as volume_fact_of, volumes as volumes_plan};
 ghost use Rattle.dm_model.specs.Plan.{no_needs};
 ghost use Rattle.dm_verdicts.specs.Verdict.{verdict_on};
 
-use crate::listing::{all_volumes, serial_of};
 use crate::prepared::group_healing_plan;
-use dm_base::{Bfid, BitRow, Bytes, GroupId, GroupRows, Listed, NoMemory, VolFact};
+use dm_base::{Bfid, BitRow, GroupId, GroupRows, Listed, NoMemory, VolFact, Vsn};
 use dm_durable::{BitfileRow, VolumeRow};
+use dm_group_usage::{Listing, all_volumes, are_serials, volumes_listed};
 use dm_model::{Answer, Group};
 use dm_tables::{Numbers, Texts};
-use dm_verdicts::{Verdict, legal};
+use dm_verdicts::{Verdict, VerdictError, legal};
 use std::alloc::Global;
 
 pub(crate) fn volumes(alloc: Global, library: &Group, id: GroupId) -> Result<Verdict, NoMemory>
@@ -23,14 +24,19 @@ pub(crate) fn volumes(alloc: Global, library: &Group, id: GroupId) -> Result<Ver
     Ok(legal(group_healing_plan(id, Answer::Volumes { rows })))
 }
 
-pub(crate) fn all_rows(alloc: Global, library: &Group, id: GroupId) -> Result<Verdict, NoMemory>
-    ensures { IfOk result (λ v. v ≡ verdict_on (all_rows_plan id library.now) no_needs) }
+pub(crate) fn all_rows(alloc: Global, library: &Group, id: GroupId) -> Result<Verdict, VerdictError>
+    ensures verdict { IfOk result (λ v. v ≡ verdict_on (all_rows_plan id library.now) no_needs) }
+    ensures range { IsErrOf result VerdictError.OutOfRange → are_serials_in library.now.tables.volumes ≡ false }
 {
+    if !are_serials(&library.tables.volumes) {
+        return Err(VerdictError::OutOfRange);
+    }
     let rows = rows_of(alloc, library)?;
     Ok(legal(group_healing_plan(id, Answer::Rows { rows })))
 }
 
 fn rows_of(alloc: Global, library: &Group) -> Result<GroupRows, NoMemory>
+    requires { are_serials_in library.now.tables.volumes ≡ true }
     ensures { IfOk result (λ rows. rows ≡ rows_of_group library.now) }
 {
     Ok(GroupRows {
@@ -43,28 +49,31 @@ fn rows_of(alloc: Global, library: &Group) -> Result<GroupRows, NoMemory>
 
 // The volumes by serial number.
 fn volume_facts(alloc: Global, volumes: &Texts<VolumeRow>) -> Result<Listed<VolFact>, NoMemory>
+    requires { are_serials_in volumes.now ≡ true }
     ensures { IfOk result (λ facts. facts ≡ prelude.map (λ e. volume_fact_of e.0 e.1) (map.entries volumes.now)) }
 {
-    let mut facts = Vec::new(alloc);
-    for (text, row) in volumes.entries() {
-        facts.push(volume_fact(text, row)?)?;
-    }
-    Ok(Listed::from_vec(facts))
+    let facts = volumes_listed(alloc, volumes, &VolumeFacts)?;
+    Ok(facts)
 }
 
-// A text that is no serial number names no volume that could be told.
-fn volume_fact(text: &Bytes, row: &VolumeRow) -> Result<VolFact, NoMemory>
-    ensures { IfOk result (λ fact. fact ≡ volume_fact_of text.now row.now) }
-{
-    let Some(vsn) = serial_of(text.as_slice()) else {
-        return Err(NoMemory);
-    };
-    Ok(VolFact {
-        vsn,
-        epoch: row.epoch,
-        end: row.end,
-        version: row.version,
-    })
+// What is told of each volume.
+#[derive(Drop)]
+struct VolumeFacts;
+
+impl Listing<VolFact> for VolumeFacts {
+    ghost use Rattle.std.specs.Prelude.{◌∷◌, []};
+    ghost use Rattle.dm_model.specs.GroupCalls.{volume_fact};
+
+    ghost listed = { λ it vsn v. volume_fact vsn v ∷ [] };
+
+    fn list(&self, vsn: Vsn, row: &VolumeRow) -> Option<VolFact> {
+        Some(VolFact {
+            vsn,
+            epoch: row.epoch,
+            end: row.end,
+            version: row.version,
+        })
+    }
 }
 
 // The bitfiles by identifier.

@@ -2,6 +2,7 @@
 
 ghost use Rattle.std.specs.Prelude.{◌≡◌, ℕ, Some, IfOk, IsErrOf, OnErr};
 ghost use Rattle.dm_joint.specs.Outcomes.{guard_named};
+ghost use Rattle.dm_joint.specs.Range.{IsInRange};
 ghost use Rattle.dm_model.specs.Begin.{empty_joint as empty_joint_of};
 ghost use Rattle.dm_model.specs.Guards.{number_of as number};
 ghost use Rattle.dm_model.specs.Step.{step as step_of};
@@ -12,6 +13,7 @@ use dm_base::{DaemonConf, GroupConf, NoMemory};
 use dm_joint_begin::empty_joint;
 use dm_model::{Answer, Event, Guard, Joint};
 use dm_state_copies::Duplicate;
+use dm_verdicts::VerdictError;
 use std::alloc::Global;
 
 /// Why nothing was stepped.
@@ -19,6 +21,8 @@ use std::alloc::Global;
 pub enum StepError {
     /// The event may not come here: the number of the lowest guard that is false.
     NotLegal { guard: u16 },
+    /// The event would tell of what can't be told, or make what can't be held: the state isn't in range. No run reaches such a state.
+    OutOfRange,
     /// Memory was refused.
     NoMemory,
 }
@@ -52,21 +56,25 @@ impl Machine for Joint {
     }
 
     /// One event of the worker, and what it is answered: exactly what the definitions say, with the number of the lowest
-    /// guard that is false where it may not come. Where it isn't done the state stays as it was.
+    /// guard that is false where it may not come. Where it isn't done the state stays as it was. `OutOfRange` comes only where
+    /// that state isn't in range, as each state of a run is.
     fn step(&mut self, alloc: Global, worker: u32, event: &Event) -> Result<Answer, StepError>
         ensures ok { IfOk result (λ a. step_of self.old worker event.now ≡ Stepped self.new a) }
         ensures illegal { (n : ℕ) → IsErrOf result (StepError.NotLegal n) → guard_named (step_of self.old worker event.now) ≡ Some n }
+        ensures range { IsErrOf result StepError.OutOfRange → IsInRange self.old → ⊥ }
         ensures err { OnErr result (self.new ≡ self.old) }
     {
         let mut after = self.duplicate(alloc)?;
-        match event_outcome(alloc, worker, event, &mut after)? {
-            Outcome::Stepped { answer } => {
+        match event_outcome(alloc, worker, event, &mut after) {
+            Ok(Outcome::Stepped { answer }) => {
                 *self = after;
                 Ok(answer)
             }
-            Outcome::Illegal { guard } => Err(StepError::NotLegal {
+            Ok(Outcome::Illegal { guard }) => Err(StepError::NotLegal {
                 guard: number_of(guard),
             }),
+            Err(VerdictError::OutOfRange) => Err(StepError::OutOfRange),
+            Err(VerdictError::NoMemory) => Err(StepError::NoMemory),
         }
     }
 }

@@ -1,9 +1,11 @@
 //! What comes of an event.
 
-ghost use Rattle.std.specs.Prelude.{◌≡◌, IfOk};
+ghost use Rattle.std.specs.Prelude.{◌≡◌, IfOk, IsErrOf};
 ghost use Rattle.std.specs.FinMap as map;
 ghost use Rattle.dm_joint.specs.Outcomes.{outcome_found};
-ghost use Rattle.dm_model.specs.Step.{call_outcome as call_outcome_of, daemon_doubt as daemon_doubt_of, doubt_outcome as doubt_outcome_of, fault_outcome as fault_outcome_of, group_doubt as group_doubt_of, landing_outcome as landing_outcome_of, landing_outcome_in, look_outcome as look_outcome_of, needs_of, plan_of, step as step_of};
+ghost use Rattle.dm_joint.specs.Range.{IsInRange};
+ghost use Rattle.dm_model.specs.declared.answer.Answer.TheVariants as answer;
+ghost use Rattle.dm_model.specs.Step.{after_call, after_fault, outcome_of, call_outcome as call_outcome_of, daemon_doubt as daemon_doubt_of, doubt_outcome as doubt_outcome_of, fault_outcome as fault_outcome_of, group_doubt as group_doubt_of, landing_outcome as landing_outcome_of, landing_outcome_in, look_outcome as look_outcome_of, needs_of, plan_of, step as step_of};
 ghost use Rattle.dm_verdicts.specs.Verdict.{verdict_on};
 
 use dm_base::{GroupId, NoMemory};
@@ -12,7 +14,7 @@ use dm_group_plans::group_verdict;
 use dm_joint_effects::{apply_call, apply_fault, apply_landing, apply_stop};
 use dm_model::{Answer, Call, Component, Event, Guard, Joint, Payload, Side};
 use dm_state_copies::Duplicate;
-use dm_verdicts::Verdict;
+use dm_verdicts::{Verdict, VerdictError};
 use dm_volume_plans::volume_verdict;
 use std::alloc::Global;
 
@@ -23,14 +25,15 @@ pub(crate) enum Outcome {
     Illegal { guard: Guard },
 }
 
-// The worker's event is done in this state, if it may come. Where memory is refused nothing is said of the state.
+// The worker's event is done in this state, if it may come. Where that fails nothing is said of the state.
 pub(crate) fn event_outcome(
     alloc: Global,
     worker: u32,
     event: &Event,
     joint: &mut Joint,
-) -> Result<Outcome, NoMemory>
-    ensures { IfOk result (λ o. outcome_found joint.new o ≡ step_of joint.old worker event.now) }
+) -> Result<Outcome, VerdictError>
+    ensures outcome { IfOk result (λ o. outcome_found joint.new o ≡ step_of joint.old worker event.now) }
+    ensures range { IsErrOf result VerdictError.OutOfRange → IsInRange joint.old → ⊥ }
 {
     match event {
         Event::Call { call } => call_outcome(alloc, worker, call, joint),
@@ -39,7 +42,7 @@ pub(crate) fn event_outcome(
             healed,
             checkpointed,
         } => fault_outcome(alloc, worker, call, *healed && *checkpointed, joint),
-        Event::Landed { component } => landing_outcome(alloc, *component, joint),
+        Event::Landed { component } => Ok(landing_outcome(alloc, *component, joint)?),
         Event::Look { component } => Ok(look_outcome(*component, joint)),
         Event::Stop => {
             apply_stop(alloc, joint)?;
@@ -51,8 +54,9 @@ pub(crate) fn event_outcome(
 }
 
 // The call with every test made.
-fn verdict(alloc: Global, worker: u32, call: &Call, joint: &Joint) -> Result<Verdict, NoMemory>
-    ensures { IfOk result (λ v. v ≡ verdict_on (plan_of joint.now call.now) (needs_of joint.now worker call.now)) }
+fn verdict(alloc: Global, worker: u32, call: &Call, joint: &Joint) -> Result<Verdict, VerdictError>
+    ensures verdict { IfOk result (λ v. v ≡ verdict_on (plan_of joint.now call.now) (needs_of joint.now worker call.now)) }
+    ensures range { IsErrOf result VerdictError.OutOfRange → IsInRange joint.now → ⊥ }
 {
     let caller = joint.workers.get(u128::from(worker));
     match call {
@@ -66,7 +70,7 @@ fn verdict(alloc: Global, worker: u32, call: &Call, joint: &Joint) -> Result<Ver
         }
         Call::Volume { group, vsn, call } => {
             let side = joint.sides.get(u128::from(group.0));
-            volume_verdict(alloc, *group, *vsn, side, call)
+            Ok(volume_verdict(alloc, *group, *vsn, side, call)?)
         }
     }
 }
@@ -76,14 +80,30 @@ fn call_outcome(
     worker: u32,
     call: &Call,
     joint: &mut Joint,
+) -> Result<Outcome, VerdictError>
+    ensures outcome { IfOk result (λ o. outcome_found joint.new o ≡ call_outcome_of joint.old worker (plan_of joint.old call.now) (needs_of joint.old worker call.now)) }
+    ensures range { IsErrOf result VerdictError.OutOfRange → IsInRange joint.old → ⊥ }
+{
+    match verdict(alloc, worker, call, joint) {
+        Ok(judged) => Ok(call_judged(alloc, worker, judged, joint)?),
+        Err(error) => Err(error),
+    }
+}
+
+// The call with this verdict.
+fn call_judged(
+    alloc: Global,
+    worker: u32,
+    judged: Verdict,
+    joint: &mut Joint,
 ) -> Result<Outcome, NoMemory>
-    ensures { IfOk result (λ o. outcome_found joint.new o ≡ call_outcome_of joint.old worker (plan_of joint.old call.now) (needs_of joint.old worker call.now)) }
+    ensures { IfOk result (λ o. outcome_found joint.new o ≡ outcome_of judged.illegal (after_call worker judged.prepared joint.old) judged.prepared.answer) }
 {
     let Verdict {
         illegal,
         illegal_fault: _,
         prepared,
-    } = verdict(alloc, worker, call, joint)?;
+    } = judged;
     match illegal {
         Some(guard) => Ok(Outcome::Illegal { guard }),
         None => {
@@ -100,14 +120,30 @@ fn fault_outcome(
     call: &Call,
     far: bool,
     joint: &mut Joint,
+) -> Result<Outcome, VerdictError>
+    ensures outcome { IfOk result (λ o. outcome_found joint.new o ≡ fault_outcome_of joint.old worker far (plan_of joint.old call.now) (needs_of joint.old worker call.now)) }
+    ensures range { IsErrOf result VerdictError.OutOfRange → IsInRange joint.old → ⊥ }
+{
+    match verdict(alloc, worker, call, joint) {
+        Ok(judged) => Ok(fault_judged(worker, judged, far, joint)?),
+        Err(error) => Err(error),
+    }
+}
+
+// The failed call with this verdict.
+fn fault_judged(
+    worker: u32,
+    judged: Verdict,
+    far: bool,
+    joint: &mut Joint,
 ) -> Result<Outcome, NoMemory>
-    ensures { IfOk result (λ o. outcome_found joint.new o ≡ fault_outcome_of joint.old worker far (plan_of joint.old call.now) (needs_of joint.old worker call.now)) }
+    ensures { IfOk result (λ o. outcome_found joint.new o ≡ outcome_of judged.illegal_fault (after_fault worker judged.prepared far joint.old) answer.Failed) }
 {
     let Verdict {
         illegal: _,
         illegal_fault,
         prepared,
-    } = verdict(alloc, worker, call, joint)?;
+    } = judged;
     match illegal_fault {
         Some(guard) => Ok(Outcome::Illegal { guard }),
         None => {

@@ -66,25 +66,16 @@ impl TryEdit<Side> for Spends<'_> {
 
     fn try_edit(&self, row: &mut Side) -> Result<(), NoMemory> {
         match self.ends {
-            Ending::Nothing => Ok(()),
-            Ending::Put {
-                request: _,
-                bfid,
-                groups: _,
-            } => {
+            Ending::Nothing | Ending::Recall { .. } => Ok(()),
+            Ending::Put { bfid, .. } => {
                 let _ = row.copies.remove(bfid.0);
                 Ok(())
             }
-            Ending::Recall { request: _ } => Ok(()),
-            Ending::Reservation {
-                group: _,
-                number,
-                bfid,
-            } => {
+            Ending::Reservation { number, bfid, .. } => {
                 let _ = row.group.reservations.remove(u128::from(*number));
                 row.copies.edit(bfid.0, &LosesReservation)
             }
-            Ending::Mount { group: _, number } => {
+            Ending::Mount { number, .. } => {
                 let _ = row.group.mounts.remove(u128::from(*number));
                 let _ = row.group.reuses.remove(u128::from(*number));
                 match row.mounts.remove(u128::from(*number)) {
@@ -93,10 +84,10 @@ impl TryEdit<Side> for Spends<'_> {
                 }
             }
             Ending::Move {
-                group: _,
                 number,
                 source,
                 target,
+                ..
             } => {
                 let _ = row.group.moves.remove(u128::from(*number));
                 let _ = row.group.mounts.remove(u128::from(*source));

@@ -1,15 +1,19 @@
 //! What a call leaves of a volume, of the work on it, and of the past.
 
-ghost use Rattle.std.specs.Prelude.{◌≡◌, IfOk, OnOk};
+ghost use Rattle.std.specs.Prelude.{◌≡◌, IfOk, OnOk, length};
 ghost use Rattle.std.specs.FinMap as map;
+ghost use Rattle.dm_joint_effects.specs.Sides.{IsNoZone};
 ghost use Rattle.dm_model.specs.DaemonCalls.{reads_or as reads_or_of};
 ghost use Rattle.dm_model.specs.Effects.{after_failed_mark, after_mark, with_read as with_read_of_recall};
+ghost use Rattle.dm_model.specs.SideShare.{known_by, side_after_mark as side_after_mark_of};
+ghost use Rattle.dm_rules.specs.Known.{known_with_write, known_without_range};
+ghost use Rattle.dm_tables.specs.Rows.{adjust};
 
 use crate::copies::{GetsZone, LosesZone};
 use crate::images::{IsForgotten, IsWritten};
 use crate::mounts::{HasLabel, HasNoZone, HasRead, HasZone};
 use crate::past::{Deletes, edit_past};
-use dm_base::{Bfid, Bytes, GroupId, NoMemory};
+use dm_base::{Bfid, Bytes, GroupId, NoMemory, Vsn};
 use dm_model::{Joint, Label, Mark, Recall, Side, Worker};
 use dm_tables::{Numbers, TryEdit, TryEditAt};
 use std::alloc::Global;
@@ -84,21 +88,16 @@ impl TryEdit<Side> for Marks<'_> {
     fn try_edit(&self, row: &mut Side) -> Result<(), NoMemory> {
         let alloc = self.alloc;
         match self.mark {
-            Mark::Nothing => Ok(()),
             Mark::Zone {
-                group: _,
                 vsn,
                 place,
                 zone,
                 bfid,
                 index,
                 epoch,
+                ..
             } => {
-                let write = IsWritten {
-                    place: *place,
-                    bytes: zone,
-                };
-                row.images.edit(&vsn.0, &write)?;
+                image_written(row, *vsn, *place, zone)?;
                 let piece = GetsZone {
                     alloc,
                     index: *index,
@@ -107,51 +106,57 @@ impl TryEdit<Side> for Marks<'_> {
                 };
                 row.copies.edit(bfid.0, &piece)
             }
-            Mark::Target {
-                group: _,
-                vsn,
-                mount,
-                place,
-                zone,
-            } => {
-                let write = IsWritten {
-                    place: *place,
-                    bytes: zone,
-                };
-                row.images.edit(&vsn.0, &write)?;
-                row.mounts
-                    .edit(u128::from(*mount), &HasZone { alloc, zone })
-            }
-            Mark::Label {
-                group: _,
-                vsn,
-                mount,
-                epoch,
-                version,
-                text,
-            } => {
-                let write = IsWritten {
-                    place: 0,
-                    bytes: text,
-                };
-                row.images.edit(&vsn.0, &write)?;
-                let label = Some(Label {
-                    epoch: *epoch,
-                    version: *version,
-                });
-                row.mounts.edit(u128::from(*mount), &HasLabel { label })
-            }
-            Mark::Read { .. } => Ok(()),
-            Mark::Source {
-                group: _,
-                mount,
-                bytes,
-            } => row
-                .mounts
-                .edit(u128::from(*mount), &HasRead { alloc, bytes }),
-            Mark::Deleted { .. } => Ok(()),
+            _ => mount_marked(alloc, self.mark, row),
         }
     }
+}
+
+// The same of a mark that is no zone of a copy: it is of a mount, or of no side.
+fn mount_marked(alloc: Global, mark: &Mark, row: &mut Side) -> Result<(), NoMemory>
+    requires { IsNoZone mark.now }
+    ensures { OnOk result (row.new ≡ side_after_mark_of mark.now row.old) }
+{
+    match mark {
+        Mark::Nothing | Mark::Read { .. } | Mark::Deleted { .. } => Ok(()),
+        Mark::Zone { .. } => unreachable!(),
+        Mark::Target {
+            vsn,
+            mount,
+            place,
+            zone,
+            ..
+        } => {
+            image_written(row, *vsn, *place, zone)?;
+            let written = HasZone { alloc, zone };
+            row.mounts.edit(u128::from(*mount), &written)
+        }
+        Mark::Label {
+            vsn,
+            mount,
+            epoch,
+            version,
+            text,
+            ..
+        } => {
+            image_written(row, *vsn, 0, text)?;
+            let label = Some(Label {
+                epoch: *epoch,
+                version: *version,
+            });
+            row.mounts.edit(u128::from(*mount), &HasLabel { label })
+        }
+        Mark::Source { mount, bytes, .. } => {
+            let read = HasRead { alloc, bytes };
+            row.mounts.edit(u128::from(*mount), &read)
+        }
+    }
+}
+
+// The bytes were written to the volume.
+fn image_written(row: &mut Side, vsn: Vsn, place: u64, bytes: &Bytes) -> Result<(), NoMemory>
+    ensures { OnOk result (row.new ≡ record row.old { images = adjust row.old.images vsn.0 (known_by (known_with_write place bytes.now)) }) }
+{
+    row.images.edit(&vsn.0, &IsWritten { place, bytes })
 }
 
 // The group's side where nothing is known of what the call would have written.
@@ -167,58 +172,50 @@ impl TryEdit<Side> for Spoils<'_> {
 
     fn try_edit(&self, row: &mut Side) -> Result<(), NoMemory> {
         match self.mark {
-            Mark::Nothing => Ok(()),
+            Mark::Nothing | Mark::Read { .. } | Mark::Source { .. } | Mark::Deleted { .. } => Ok(
+                (),
+            ),
             Mark::Zone {
-                group: _,
                 vsn,
                 place,
                 zone,
                 bfid,
                 index,
-                epoch: _,
+                ..
             } => {
-                let lost = IsForgotten {
-                    place: *place,
-                    count: zone.len(),
-                };
-                row.images.edit(&vsn.0, &lost)?;
+                image_forgotten(row, *vsn, *place, zone)?;
                 row.copies.edit(bfid.0, &LosesZone { index: *index })
             }
             Mark::Target {
-                group: _,
                 vsn,
                 mount,
                 place,
                 zone,
+                ..
             } => {
-                let lost = IsForgotten {
-                    place: *place,
-                    count: zone.len(),
-                };
-                row.images.edit(&vsn.0, &lost)?;
+                image_forgotten(row, *vsn, *place, zone)?;
                 row.mounts.edit(u128::from(*mount), &HasNoZone)
             }
             Mark::Label {
-                group: _,
                 vsn,
                 mount,
-                epoch: _,
-                version: _,
                 text,
+                ..
             } => {
-                let lost = IsForgotten {
-                    place: 0,
-                    count: text.len(),
-                };
-                row.images.edit(&vsn.0, &lost)?;
-                row.mounts
-                    .edit(u128::from(*mount), &HasLabel { label: None })
+                image_forgotten(row, *vsn, 0, text)?;
+                let unlabelled = HasLabel { label: None };
+                row.mounts.edit(u128::from(*mount), &unlabelled)
             }
-            Mark::Read { .. } => Ok(()),
-            Mark::Source { .. } => Ok(()),
-            Mark::Deleted { .. } => Ok(()),
         }
     }
+}
+
+// Nothing is known of the volume where these bytes would have been written.
+fn image_forgotten(row: &mut Side, vsn: Vsn, place: u64, bytes: &Bytes) -> Result<(), NoMemory>
+    ensures { OnOk result (row.new ≡ record row.old { images = adjust row.old.images vsn.0 (known_by (known_without_range place (length bytes.now))) }) }
+{
+    let count = bytes.len();
+    row.images.edit(&vsn.0, &IsForgotten { place, count })
 }
 
 // A read of a chunk of the bitfile from the group's copy.

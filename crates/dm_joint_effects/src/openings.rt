@@ -4,7 +4,7 @@ ghost use Rattle.std.specs.Prelude.{◌≡◌, IfOk, OnOk};
 ghost use Rattle.std.specs.FinMap as map;
 ghost use Rattle.dm_model.specs.Effects.{after_opening, at_each, with_recall, worker_or as worker_or_of};
 ghost use Rattle.dm_model.specs.DaemonShare.{with_request};
-ghost use Rattle.dm_joint_effects.specs.Sides.{side_with_copy, side_with_reserved};
+ghost use Rattle.dm_joint_effects.specs.Sides.{IsJob, IsOfGroup, side_with_copy, side_with_reserved, sides_opened};
 ghost use Rattle.dm_model.specs.GroupShare.{with_mounted as with_mounted_of, with_reserved};
 ghost use Rattle.dm_tables.specs.Rows.{adjust};
 
@@ -45,17 +45,25 @@ pub(crate) fn open(
             open_request(number, request, &mut joint.daemon)?;
             open_recall(alloc, worker, number, recall, &mut joint.workers)
         }
+        rest @ (Opening::Reservation { .. }
+        | Opening::Mount { .. }
+        | Opening::Move { .. }
+        | Opening::Reuse { .. }) => open_in_group(alloc, rest, &mut joint.sides),
+    }
+}
+
+// The same of what a call of a group makes.
+fn open_in_group(alloc: Global, opens: Opening, sides: &mut Numbers<Side>) -> Result<(), NoMemory>
+    requires { IsOfGroup opens }
+    ensures { OnOk result (sides.new ≡ sides_opened opens sides.old) }
+{
+    match opens {
+        Opening::Nothing | Opening::Put { .. } | Opening::Recall { .. } => unreachable!(),
         Opening::Reservation {
             group,
             number,
             reserved,
-        } => reserve(
-            alloc,
-            u128::from(group.0),
-            number,
-            reserved,
-            &mut joint.sides,
-        ),
+        } => reserve(alloc, u128::from(group.0), number, reserved, sides),
         Opening::Mount {
             group,
             number,
@@ -69,8 +77,23 @@ pub(crate) fn open(
                 epoch,
                 origin,
             };
-            joint.sides.edit(u128::from(group.0), &mounts)
+            sides.edit(u128::from(group.0), &mounts)
         }
+        rest @ (Opening::Move { .. } | Opening::Reuse { .. }) => open_job(alloc, rest, sides),
+    }
+}
+
+// The same of a move and of a reuse.
+fn open_job(alloc: Global, opens: Opening, sides: &mut Numbers<Side>) -> Result<(), NoMemory>
+    requires { IsJob opens }
+    ensures { OnOk result (sides.new ≡ sides_opened opens sides.old) }
+{
+    match opens {
+        Opening::Nothing
+        | Opening::Put { .. }
+        | Opening::Recall { .. }
+        | Opening::Reservation { .. }
+        | Opening::Mount { .. } => unreachable!(),
         Opening::Move {
             group,
             number,
@@ -85,7 +108,7 @@ pub(crate) fn open(
                 source_epoch,
                 target_epoch,
             };
-            joint.sides.edit(u128::from(group.0), &moves)
+            sides.edit(u128::from(group.0), &moves)
         }
         Opening::Reuse {
             group,
@@ -100,7 +123,7 @@ pub(crate) fn open(
                 reusing,
                 reading,
             };
-            joint.sides.edit(u128::from(group.0), &reuses)
+            sides.edit(u128::from(group.0), &reuses)
         }
     }
 }

@@ -1,5 +1,8 @@
 //! Copies of durable tables and of their records.
 
+ghost use Rattle.std.specs.Prelude.{◌≡◌, IfOk};
+ghost use Rattle.dm_state_copies.specs.Steps.{IsLater};
+
 use crate::duplicate::Duplicate;
 use dm_base::NoMemory;
 use dm_durable::{
@@ -129,30 +132,47 @@ impl Duplicate for DaemonStep {
                 ino: *ino,
                 bytes: bytes.copied(alloc)?,
             }),
-            DaemonStep::Dump { name } => Ok(DaemonStep::Dump {
-                name: name.copied(alloc)?,
-            }),
-            DaemonStep::Undump { name } => Ok(DaemonStep::Undump {
-                name: name.copied(alloc)?,
-            }),
-            DaemonStep::Restore {
-                name,
-                path,
-                target,
-                change,
-            } => Ok(DaemonStep::Restore {
-                name: name.copied(alloc)?,
-                path: path.copied(alloc)?,
-                target: target.copied(alloc)?,
-                change: *change,
-            }),
-            DaemonStep::HardDelete { bfids } => Ok(DaemonStep::HardDelete {
-                bfids: bfids.copied(alloc)?,
-            }),
-            DaemonStep::Dropped { bfid } => Ok(DaemonStep::Dropped { bfid: *bfid }),
-            DaemonStep::Restart => Ok(DaemonStep::Restart),
-            DaemonStep::Age { age } => Ok(DaemonStep::Age { age: *age }),
+            _ => later_step(self, alloc),
         }
+    }
+}
+
+// A copy of a step on dumps, of a hard delete, of a start or of an age.
+fn later_step(step: &DaemonStep, alloc: Global) -> Result<DaemonStep, NoMemory>
+    requires { IsLater step.now }
+    ensures { IfOk result (λ s. s ≡ step.now) }
+{
+    match step {
+        DaemonStep::Write { .. }
+        | DaemonStep::Remove { .. }
+        | DaemonStep::BeginPut { .. }
+        | DaemonStep::Stored { .. }
+        | DaemonStep::EndPut { .. }
+        | DaemonStep::Release { .. }
+        | DaemonStep::Taken { .. } => unreachable!(),
+        DaemonStep::Dump { name } => Ok(DaemonStep::Dump {
+            name: name.copied(alloc)?,
+        }),
+        DaemonStep::Undump { name } => Ok(DaemonStep::Undump {
+            name: name.copied(alloc)?,
+        }),
+        DaemonStep::Restore {
+            name,
+            path,
+            target,
+            change,
+        } => Ok(DaemonStep::Restore {
+            name: name.copied(alloc)?,
+            path: path.copied(alloc)?,
+            target: target.copied(alloc)?,
+            change: *change,
+        }),
+        DaemonStep::HardDelete { bfids } => Ok(DaemonStep::HardDelete {
+            bfids: bfids.copied(alloc)?,
+        }),
+        DaemonStep::Dropped { bfid } => Ok(DaemonStep::Dropped { bfid: *bfid }),
+        DaemonStep::Restart => Ok(DaemonStep::Restart),
+        DaemonStep::Age { age } => Ok(DaemonStep::Age { age: *age }),
     }
 }
 

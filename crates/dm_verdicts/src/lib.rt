@@ -4,10 +4,12 @@
 //! The crates that make a verdict on each call of the daemon, of a group and on a volume share what stands here.
 #![tactic(auto)]
 
+mod error;
 mod guards;
 mod prepared;
 mod verdict;
 
+pub use error::VerdictError;
 pub use guards::lowest;
 pub use prepared::{healing_plan, quiet_plan};
 pub use verdict::{Verdict, guarded, judge, legal};

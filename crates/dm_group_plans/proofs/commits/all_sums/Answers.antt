@@ -1,6 +1,6 @@
 use Rattle.std.proofs.lemmas.List.{drop_all}
 use Rattle.dm_model.specs.GroupCalls.{piece_sums}
-use Rattle.dm_group_plans.proofs.Lists.{drop_next, no_piece}
+use Rattle.dm_group_usage.proofs.Lists.{drop_next, no_piece}
 use Rattle.dm_group_plans.proofs.Written.{put_on, put_end}
 use Rattle.dm_group_plans.proofs.commits.all_sums.Goals as goal
 

@@ -1,6 +1,6 @@
 use Rattle.std.proofs.Common.{ap, sym, ◌∙◌, drop, refl}
 use Rattle.std.proofs.lemmas.List.{drop_all}
-use Rattle.dm_group_plans.proofs.Lists.{drop_next_of, no_piece}
+use Rattle.dm_group_usage.proofs.Lists.{drop_next_of, no_piece}
 use Rattle.dm_group_plans.proofs.Written.{written_on, written_not, written_end}
 use Rattle.dm_group_plans.proofs.commits.are_written.Goals as goal
 

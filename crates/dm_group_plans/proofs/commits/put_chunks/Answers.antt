@@ -1,7 +1,7 @@
 use Rattle.std.proofs.Common.{refl, ap, ◌∙◌, get_or}
 use Rattle.std.proofs.lemmas.List.{drop_all}
 use Rattle.dm_group_plans.specs.Found.{with_sum}
-use Rattle.dm_group_plans.proofs.Lists.{drop_next, no_chunk}
+use Rattle.dm_group_usage.proofs.Lists.{drop_next, no_chunk}
 use Rattle.dm_group_plans.proofs.Written.{with_on, with_end}
 use Rattle.dm_group_plans.proofs.commits.put_chunks.Goals as goal
 

@@ -3,7 +3,7 @@ use Rattle.std.proofs.lemmas.List.{drop_all}
 use Rattle.dm_base.specs.declared.volume.Chunk.{Chunk}
 use Rattle.dm_model.specs.GroupCalls.{with_sums}
 use Rattle.dm_rules.specs.Version.{has_sum}
-use Rattle.dm_group_plans.proofs.Lists.{drop_next, no_piece}
+use Rattle.dm_group_usage.proofs.Lists.{drop_next, no_piece}
 use Rattle.dm_group_plans.proofs.Written.{summed_on, summed_end}
 use Rattle.dm_group_plans.proofs.commits.summed_chunks.Goals as goal
 

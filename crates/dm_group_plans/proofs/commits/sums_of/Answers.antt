@@ -3,7 +3,7 @@ use Rattle.std.proofs.lemmas.List.{drop_all}
 use Rattle.dm_base.specs.declared.volume.Chunk.{Chunk}
 use Rattle.dm_model.specs.GroupCalls.{part_of}
 use Rattle.sha2.specs.Sha256.{sha256}
-use Rattle.dm_group_plans.proofs.Lists.{drop_next, no_chunk}
+use Rattle.dm_group_usage.proofs.Lists.{drop_next, no_chunk}
 use Rattle.dm_group_plans.proofs.Written.{mapped_on, mapped_end}
 use Rattle.dm_group_plans.proofs.commits.sums_of.Goals as goal
 

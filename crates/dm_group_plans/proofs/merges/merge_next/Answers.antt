@@ -11,8 +11,8 @@ use Rattle.dm_verdicts.specs.declared.verdict.Verdict.{Verdict}
 use Rattle.dm_verdicts.specs.Verdict.{verdict_on}
 use Rattle.dm_group_plans.proofs.merges.merge_next.Goals as goal
 
-pub returns : goal.returns
-returns c =
+pub returns-clause-verdict : goal.returns-clause-verdict
+returns-clause-verdict c =
     let group = c.args.library.now in
     let t = c.args.tokens in
     let whole : List Vsn → Option LiveChunk → Bool → Bool → Verdict = λ merged first listed there.
@@ -21,4 +21,4 @@ returns c =
     let listed = c.is_listed.ensures ∙ ap (λ (l : List Vsn). is_listed l c.args.source.0) m in
     let there = c.are_there-there.ensures ∙ ap (λ (l : List Vsn). list_all (λ v. is_some (map.get group.tables.volumes v.0)) l) m in
     let first = c.first_on-first.ensures in
-    subst (λ z. IfOk c.merge_first.result (λ v. v ≡ z)) (λ i. whole (m i) (first i) (listed i) (there i)) c.merge_first.ensures
+    subst (λ z. IfOk c.merge_first.result (λ v. v ≡ z)) (λ i. whole (m i) (first i) (listed i) (there i)) c.merge_first.ensures.verdict

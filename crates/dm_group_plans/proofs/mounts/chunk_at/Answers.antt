@@ -1,5 +1,6 @@
 use Rattle.std.proofs.lemmas.List.{drop_all}
-use Rattle.dm_group_plans.proofs.Lists.{drop_next, no_chunk, chunk_on, chunk_here, chunk_end}
+use Rattle.dm_group_usage.proofs.Lists.{drop_next, no_chunk}
+use Rattle.dm_group_plans.proofs.Lists.{chunk_on, chunk_here, chunk_end}
 use Rattle.dm_group_plans.proofs.mounts.chunk_at.Goals as goal
 
 pub loop-chunk-preserved : goal.loop-chunk-preserved

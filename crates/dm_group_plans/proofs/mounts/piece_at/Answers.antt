@@ -1,5 +1,6 @@
 use Rattle.std.proofs.lemmas.List.{drop_all}
-use Rattle.dm_group_plans.proofs.Lists.{drop_next, no_piece, piece_on, piece_here, piece_end}
+use Rattle.dm_group_usage.proofs.Lists.{drop_next, no_piece}
+use Rattle.dm_group_plans.proofs.Lists.{piece_on, piece_here, piece_end}
 use Rattle.dm_group_plans.proofs.mounts.piece_at.Goals as goal
 
 pub loop-piece-preserved : goal.loop-piece-preserved

@@ -1,6 +1,6 @@
 use Rattle.std.proofs.Common.{◌∙◌, arith}
 use Rattle.dm_model.specs.Volumes.{usage_of}
-use Rattle.dm_group_plans.proofs.Listed.{reusable_at}
+use Rattle.dm_group_usage.proofs.Listed.{reusable_at}
 use Rattle.dm_group_plans.proofs.reuses.reuse_next.Goals as goal
 
 pub reuse_of-requires : goal.reuse_of-requires

@@ -1,4 +1,0 @@
-pub mod Changed
-pub mod Places
-pub mod ReadNotes
-pub mod Tips

@@ -1,6 +1,0 @@
-use Rattle.std.proofs.Common.{◌-◌}
-use Rattle.dm_group_plans.proofs.Layouts.{Cut}
-use Rattle.dm_group_plans.proofs.layout.chunks_of.Given as goal
-
-abbrev pub invariant-loop : goal.invariant-loop
-invariant-loop l = Cut l.chunks.items l.chunk (l.end - l.counter) l.piece l.offset l.left l.place

@@ -1,7 +1,0 @@
-use Rattle.std.proofs.Common.{◌∙◌, ap, arith}
-use Rattle.dm_group_plans.specs.Measures.{summed}
-use Rattle.dm_group_plans.proofs.Summing.{weight_is}
-use Rattle.dm_group_plans.proofs.weights.weight_on.Goals as goal
-
-pub returns : goal.returns
-returns c = c.sum_on.ensures ∙ ap summed (weight_is c.args.bitfiles.now c.args.version _ c.args.vsn.0 (omega (arith, c.chunk_header.ensures)))

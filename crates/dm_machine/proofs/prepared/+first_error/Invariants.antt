@@ -1,5 +1,0 @@
-use Rattle.std.proofs.Common.{length}
-use Rattle.dm_machine.proofs.prepared.+first_error.Given as goal
-
-abbrev pub decreases-first_error : goal.decreases-first_error
-decreases-first_error l = length l.tests.now

@@ -1,4 +1,0 @@
-pub mod Effects
-pub mod DaemonCalls
-pub mod Step
-pub mod Begin

@@ -1,9 +1,0 @@
-use Rattle.std.proofs.Common.{◌≡◌, ◌++◌, Some}
-use Rattle.std.specs.List.{flat_map}
-use Rattle.dm_parts.specs.Files.{row_if, file_named, all_rows}
-use Rattle.dm_parts.proofs.state.Daemon.rows.Given as goal
-
--- the rows, with those of the names that are left, are all
-abbrev pub invariant-loop-path : goal.invariant-loop-path
-invariant-loop-path l =
-    l.rows.items ++ flat_map (λ e. row_if l.self.requests e.0 (file_named l.self.tables.inodes (Some e.1))) l.path-iterator ≡ all_rows l.self

@@ -1,5 +1,0 @@
-use Rattle.std.proofs.Common.{length}
-use Rattle.dm_parts.proofs.volumes.+least_missing.Given as goal
-
-abbrev pub decreases-least_missing : goal.decreases-least_missing
-decreases-least_missing l = length l.left.now

@@ -1,6 +1,0 @@
-use Rattle.std.proofs.Common.{◌≡◌, ◌-◌}
-use Rattle.dm_parts.specs.Volumes.{free_slot}
-use Rattle.dm_parts.proofs.volumes.free_slot.Given as goal
-
-abbrev pub invariant-loop-slot : goal.invariant-loop-slot
-invariant-loop-slot l = free_slot l.volumes (16 - l.slot) l.slot ≡ free_slot l.volumes 16 0

@@ -1,6 +1,0 @@
-use Rattle.std.proofs.Common.{◌≡◌, ◌+◌, drop}
-use Rattle.dm_rules.specs.Known.{agrees_with_known}
-use Rattle.dm_plans.proofs.volume_plans.agrees.Given as goal
-
-abbrev pub invariant-loop-index : goal.invariant-loop-index
-invariant-loop-index l = agrees_with_known l.known (l.place + l.index) (drop l.index l.bytes) ≡ agrees_with_known l.known l.place l.bytes

@@ -1,2 +1,0 @@
-pub mod GroupCalls
-pub mod VolumeCalls

@@ -1,4 +1,0 @@
-pub mod Changes
-pub mod Lists
-pub mod Ends
-pub mod Freed

@@ -1,8 +1,0 @@
-pub mod Tables
-pub mod Limits
-pub mod Inodes
-pub mod Entries
-pub mod Daemon
-pub mod DaemonConditions
-pub mod Group
-pub mod GroupConditions
